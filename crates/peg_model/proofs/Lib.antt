@@ -1,0 +1,12 @@
+pub mod Computed
+pub mod Operations
+pub mod Listings
+pub mod Handovers
+pub mod Fences
+pub mod MixedFences
+pub mod MixedCopies
+pub mod MixedHandovers
+pub mod MixedRetries
+pub mod Probes
+pub mod Examples
+pub mod Realistic
