@@ -1,0 +1,325 @@
+//! A client: at most one operation is pending, and the first reply to it answers it.
+#![tactic(auto)]
+
+ghost use Rattle.std.specs.Prelude.{◌≡◌, ℕ, ◌≤◌, ◌<◌, [], ◌∷◌, ◌++◌, Option, Some, None, true};
+ghost use Rattle.std.specs.Prelude.{◌==◌, ◌&&◌, length, IfSome};
+ghost use Rattle.std.specs.Str.{bytes_eq};
+ghost use Rattle.std.specs.Option.{option_map};
+ghost use Rattle.peg_name.specs.Name.{IsKey};
+ghost use Rattle.peg_name.specs.declared.Node.TheVariants as node;
+ghost use Rattle.peg_model.specs.Packet as model;
+ghost use Rattle.peg_model.specs.Packet.{in_range, is_client};
+ghost use Rattle.peg_model.specs.Client.{new_client, begin_operation, resend, give_up, client_step};
+ghost use Rattle.peg_model.specs.Client.{request_of, awaits_read, awaits_write, is_read};
+ghost use Rattle.peg_model.specs.Datagrams.{client_on_bytes, are_packets};
+ghost use Rattle.peg_packet.specs.Seen.{seen};
+ghost use Rattle.peg_packet.specs.Outbox.{posted};
+ghost use Rattle.peg_client.specs.Fits.{ask_fits, pending_fits};
+
+use peg_event::{ClientDid, Pending};
+pub use peg_event::{Ask, Issue};
+use peg_name::{ClientId, Content, Format, Key, Node, Seq, SwitchId};
+use peg_packet::{Packet, Post, bytes_of, content_of, decode};
+use std::marker::Model;
+
+#[cfg(test)]
+mod tests;
+
+/// A client's next sequence number, its pending operation, and the switch that it takes to be
+/// active.
+#[derive(Clone, Copy, Debug)]
+pub struct Client {
+    format: Format,
+    id: ClientId,
+    next: Seq,
+    pending: Option<Pending>,
+    switch: SwitchId,
+    epoch: u64,
+}
+
+impl Model for Client {
+    ghost use Rattle.std.specs.Prelude.{◌≡◌, ◌≤◌, true};
+    ghost use Rattle.peg_model.specs.Client.{Client as TheClient};
+    ghost use Rattle.peg_model.specs.Packet.{is_client};
+    ghost use Rattle.peg_client.specs.Fits.{pending_fits};
+
+    ghost Value = { TheClient };
+
+    ghost view = { λ c. record {
+      format = c.format;
+      id = c.id;
+      next = c.next;
+      pending = c.pending;
+      switch = c.switch;
+      epoch = c.epoch;
+    } };
+
+    ghost invariant = { λ c.
+        (is_client c.format c.id ≡ true) × (1 ≤ c.next)
+        × (pending_fits c.format c.pending ≡ true) };
+
+    ghost inverse = { λ c. record {
+      format = c.format;
+      id = c.id;
+      next = c.next;
+      pending = c.pending;
+      switch = c.switch;
+      epoch = c.epoch;
+    } };
+}
+
+impl Client {
+    /// A client of a rack of this format that has issued nothing; its first operation gets the
+    /// number `first`.
+    pub fn new(format: Format, id: ClientId, first: Seq) -> Client
+        requires id { is_client format id ≡ true }
+        requires first { 1 ≤ first }
+        ensures { result ≡ new_client format id first }
+    {
+        Client {
+            format,
+            id,
+            next: first,
+            pending: None,
+            switch: SwitchId(0),
+            epoch: 1,
+        }
+    }
+
+    /// The format of the packets that it sends and takes.
+    pub fn format(&self) -> Format
+        ensures { result ≡ self.now.format }
+    {
+        self.format
+    }
+
+    /// Begins an operation and sends its request. It is `Busy` exactly where one is pending, else
+    /// `Spent` exactly where the sequence numbers are used up; then nothing changes.
+    pub fn issue(&mut self, key: &Key, ask: Ask, post: &mut Post) -> Issue
+        requires format { post.old.format ≡ self.old.format }
+        requires room { length post.old.items < post.old.slots }
+        requires ask { ask_fits self.old.format ask ≡ true }
+        ensures answer { result ≡ (begin_operation self.old key.now ask).did }
+        ensures after { self.new ≡ (begin_operation self.old key.now ask).state }
+        ensures sent { post.new ≡ posted post.old (begin_operation self.old key.now ask).sent }
+        ensures packets { are_packets self.old.format
+            (begin_operation self.old key.now ask).sent ≡ true }
+    {
+        if let Some(pending) = &self.pending {
+            return Issue::Busy { seq: pending.seq };
+        }
+        if self.next.0 == u64::MAX {
+            return Issue::Spent;
+        }
+        let seq = self.next;
+        self.next = Seq(seq.0 + 1);
+        self.pending = Some(Pending {
+            seq,
+            key: *key,
+            ask,
+        });
+        self.send(post);
+        Issue::Sent { seq }
+    }
+
+    /// Sends the request of the pending operation again, to the switch that is now taken to be
+    /// active. `None` exactly where nothing is pending.
+    pub fn resend(&mut self, post: &mut Post) -> Option<Seq>
+        requires format { post.old.format ≡ self.old.format }
+        requires room { length post.old.items < post.old.slots }
+        ensures answer { result ≡ (resend self.old).did }
+        ensures after { self.new ≡ (resend self.old).state }
+        ensures sent { post.new ≡ posted post.old (resend self.old).sent }
+        ensures packets { are_packets self.old.format (resend self.old).sent ≡ true }
+    {
+        let Some(pending) = &self.pending else {
+            return None;
+        };
+        self.send(post);
+        Some(pending.seq)
+    }
+
+    /// Sends the request of the pending operation, if there is one.
+    fn send(&self, post: &mut Post)
+        requires format { post.old.format ≡ self.now.format }
+        requires room { length post.old.items < post.old.slots }
+        ensures sent { post.new ≡ posted post.old (resend self.now).sent }
+        ensures packets { are_packets self.now.format (resend self.now).sent ≡ true }
+    {
+        if let Some(packet) = self.request() {
+            post.put(Node::Switch(self.switch), &packet);
+        }
+    }
+
+    /// The request of the pending operation.
+    fn request(&self) -> Option<Packet<'_>>
+        ensures is { option_map seen result
+            ≡ option_map (λ p. request_of self.now.id p.seq p.key p.ask) self.now.pending }
+        ensures in_range { IfSome result (λ packet.
+            in_range self.now.format (seen packet) ≡ true) }
+    {
+        match &self.pending {
+            Some(pending) => Some(self.request_for(pending)),
+            None => None,
+        }
+    }
+
+    #[tactic(auto, using(crate::proofs::Requests::request_in_range))]
+    fn request_for<'a>(&self, pending: &'a Pending) -> Packet<'a>
+        requires { pending_fits self.now.format (Some pending.now) ≡ true }
+        ensures is { seen result ≡ request_of self.now.id pending.now.seq pending.now.key pending.now.ask }
+        ensures in_range { in_range self.now.format
+            (request_of self.now.id pending.now.seq pending.now.key pending.now.ask) ≡ true }
+    {
+        let seq = number_of(pending);
+        let key = pending.key.bytes();
+        match &pending.ask {
+            Ask::Read => Packet::Read {
+                client: self.id,
+                seq,
+                key,
+            },
+            Ask::Write(content) => Packet::Write {
+                client: self.id,
+                seq,
+                key,
+                content: bytes_of(content),
+            },
+        }
+    }
+
+    /// Gives the pending operation up: no reply answers it any more. `None` exactly where nothing
+    /// is pending.
+    pub fn give_up(&mut self) -> Option<Seq>
+        ensures answer { result ≡ (give_up self.old).did }
+        ensures after { self.new ≡ (give_up self.old).state }
+    {
+        let Some(pending) = &self.pending else {
+            return None;
+        };
+        let seq = pending.seq;
+        self.pending = None;
+        Some(seq)
+    }
+
+    /// Takes any bytes. A reply of the kind, number and key of the pending operation answers it,
+    /// and an announcement of a later epoch names the active switch; all else is ignored.
+    #[tactic(auto, unfolding(peg_model::specs::Client::client_step))]
+    pub fn step(&mut self, bytes: &[u8]) -> ClientDid
+        ensures answer { result ≡ (client_on_bytes self.old bytes.now).did }
+        ensures after { self.new ≡ (client_on_bytes self.old bytes.now).state }
+    {
+        let Some((format, packet)) = decode(bytes) else {
+            return ClientDid::Ignored;
+        };
+        if format != self.format {
+            return ClientDid::Ignored;
+        }
+        self.take(&packet)
+    }
+
+    #[tactic(auto, unfolding(peg_model::specs::Client::client_step, peg_model::specs::Packet::in_range))]
+    fn take(&mut self, packet: &Packet<'_>) -> ClientDid
+        requires { in_range self.old.format (seen packet.now) ≡ true }
+        ensures answer { result ≡ (client_step self.old (seen packet.now)).did }
+        ensures after { self.new ≡ (client_step self.old (seen packet.now)).state }
+    {
+        match packet {
+            Packet::ReadReply {
+                client,
+                seq,
+                version,
+                key,
+                content,
+                ..
+            } => {
+                let content = content_of(self.format, *content);
+                if !self.awaits_read(*client, *seq, key) {
+                    return ClientDid::Ignored;
+                }
+                self.pending = None;
+                ClientDid::Read {
+                    seq: *seq,
+                    version: *version,
+                    content,
+                }
+            }
+            Packet::WriteReply {
+                client,
+                seq,
+                version,
+                key,
+                ..
+            } => {
+                if !self.awaits_write(*client, *seq, key) {
+                    return ClientDid::Ignored;
+                }
+                self.pending = None;
+                ClientDid::Wrote {
+                    seq: *seq,
+                    version: *version,
+                }
+            }
+            Packet::Announce { epoch, switch } => self.move_to(*epoch, *switch),
+            _ => ClientDid::Ignored,
+        }
+    }
+
+    #[tactic(auto, unfolding(peg_model::specs::Client::client_step))]
+    fn move_to(&mut self, epoch: u64, switch: SwitchId) -> ClientDid
+        ensures answer { result ≡ (client_step self.old (model.Announce epoch switch)).did }
+        ensures after { self.new ≡ (client_step self.old (model.Announce epoch switch)).state }
+    {
+        if epoch <= self.epoch {
+            return ClientDid::Ignored;
+        }
+        self.epoch = epoch;
+        self.switch = switch;
+        ClientDid::Moved { switch, epoch }
+    }
+
+    fn awaits_read(&self, client: ClientId, seq: Seq, key: &[u8]) -> bool
+        ensures { result ≡ awaits_read self.now client seq key.now }
+    {
+        match &self.pending {
+            Some(pending) if is_read(&pending.ask) => {
+                matches(self.id, pending, client, seq, key)
+            }
+            _ => false,
+        }
+    }
+
+    fn awaits_write(&self, client: ClientId, seq: Seq, key: &[u8]) -> bool
+        ensures { result ≡ awaits_write self.now client seq key.now }
+    {
+        match &self.pending {
+            Some(pending) if !is_read(&pending.ask) => {
+                matches(self.id, pending, client, seq, key)
+            }
+            _ => false,
+        }
+    }
+}
+
+fn is_read(ask: &Ask) -> bool
+    ensures { result ≡ is_read ask.now }
+{
+    match ask {
+        Ask::Read => true,
+        Ask::Write(_) => false,
+    }
+}
+
+/// Whether the numbers and the key are those of the pending operation.
+fn matches(id: ClientId, pending: &Pending, client: ClientId, seq: Seq, key: &[u8]) -> bool
+    ensures { result
+        ≡ (client == id && seq == pending.now.seq && bytes_eq key.now pending.now.key) }
+{
+    client == id && seq == pending.seq && key == pending.key.bytes()
+}
+
+fn number_of(pending: &Pending) -> Seq
+    ensures { result ≡ pending.now.seq }
+{
+    pending.seq
+}

@@ -1,0 +1,63 @@
+use crate::*;
+use peg_name::{ServerId, Value, Version};
+use peg_packet::{Packet, encode, is_in_range};
+use std::test::Fail;
+
+const READER: ClientId = ClientId(1);
+
+#[test]
+fn one_operation_is_pending_at_most(rt: HostRuntime) -> Result<(), Fail> {
+    let mut client = Client::new(Format::One, READER, Seq(7));
+    let mut post = Post::make(rt.alloc(), Format::One, 2)?;
+    let key = Key::read(b"k")?;
+    assert!(rt; post.len() < post.slots() && post.format() == client.format());
+    assert_eq!(rt;
+        client.issue(&key, Ask::Read, &mut post),
+        Issue::Sent { seq: Seq(7) }
+    );
+    assert!(rt; post.len() < post.slots() && post.format() == client.format());
+    assert_eq!(rt;
+        client.issue(&key, Ask::Read, &mut post),
+        Issue::Busy { seq: Seq(7) }
+    );
+    assert!(rt; post.len() < post.slots() && post.format() == client.format());
+    assert_eq!(rt; client.resend(&mut post), Some(Seq(7)));
+    assert_eq!(rt; post.len(), 2);
+    assert_eq!(rt; client.give_up(), Some(Seq(7)));
+    assert_eq!(rt; client.give_up(), None);
+    Ok(())
+}
+
+#[test]
+fn the_first_reply_answers(rt: HostRuntime) -> Result<(), Fail> {
+    let mut client = Client::new(Format::One, READER, Seq(7));
+    let mut post = Post::make(rt.alloc(), Format::One, 2)?;
+    let key = Key::read(b"k")?;
+    assert!(rt; post.len() < post.slots() && post.format() == client.format());
+    client.issue(&key, Ask::Read, &mut post);
+    let replies = [Packet::ReadReply {
+        client: READER,
+        seq: Seq(7),
+        version: Version(3),
+        server: ServerId(0),
+        switch: SwitchId(0),
+        key: b"k",
+        content: Some(b"x"),
+    }];
+    assert!(rt; is_in_range(Format::One, &replies[0]));
+    let mut bytes = [0; 1152];
+    let len = encode(Format::One, &replies[0], &mut bytes);
+    assert!(rt; len <= 1152);
+    let did = client.step(&bytes[..len]);
+    assert_eq!(rt;
+        did,
+        ClientDid::Read {
+            seq: Seq(7),
+            version: Version(3),
+            content: Content::Present(Value::read(b"x")?)
+        }
+    );
+    assert_eq!(rt; client.step(&bytes[..len]), ClientDid::Ignored);
+    assert_eq!(rt; client.step(b"no packet"), ClientDid::Ignored);
+    Ok(())
+}

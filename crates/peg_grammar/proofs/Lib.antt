@@ -1,0 +1,15 @@
+pub mod Places
+pub mod Ranges
+pub mod Family
+pub mod Rows
+pub mod Others
+pub mod Spelled
+pub mod Whole
+pub mod Sets
+pub mod State
+pub mod Lay
+pub mod Parts
+pub mod RowsAt
+pub mod Read
+pub mod Most
+pub mod Prefix

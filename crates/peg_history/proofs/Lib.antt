@@ -1,0 +1,7 @@
+pub mod Sorting
+pub mod Tags
+pub mod Orders
+pub mod EntryOrder
+pub mod Grouping
+pub mod Indexed
+pub mod Passes

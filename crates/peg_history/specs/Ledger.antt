@@ -1,0 +1,8 @@
+-- A history as a contract sees it.
+--     Ledger      its operations, and how many more there is memory for
+use Rattle.std.specs.Prelude.{ℕ, List}
+use Rattle.peg_event.specs.declared.Op.{Op}
+
+pub record Ledger : Type 0 where
+  pub ops : List Op
+  pub spare : ℕ

@@ -1,0 +1,34 @@
+use Rattle.std.proofs.Common.{arith}
+use Rattle.peg_io.proofs.Reading.{IsUnder_ready, IsUnder_more, gives_part, keeps_part, gives_last}
+use Rattle.peg_io.proofs.Reading.{keeps_end, gives_failed, keeps_failed}
+use Rattle.peg_io.proofs.lines.Lines.next.Goals as goal
+
+pub loop-self-preserved : goal.loop-self-preserved
+loop-self-preserved g c = record {
+  under = IsUnder_more (IsUnder_ready c.loop-self.invariant.under c.in-Bytes.ensures.content) c.in_default.ensures;
+  later = omega (arith, c.loop-self.invariant.later, c.in-Bytes.ensures.later);
+}
+
+pub returns-in-End-clause-content : goal.returns-in-End-clause-content
+returns-in-End-clause-content g c =
+    gives_last (g.S.Source.left c.ready.new.source) c.last.result c.last.ensures c.loop-self.invariant.under c.in-End.ensures.content.0 c.in-End.ensures.content.1
+
+pub returns-in-End-clause-keeps : goal.returns-in-End-clause-keeps
+returns-in-End-clause-keeps g c =
+    keeps_end c.last.result c.last.ensures c.loop-self.invariant.under c.in-End.ensures.content.0
+
+pub returns-in-Some-clause-content : goal.returns-in-Some-clause-content
+returns-in-Some-clause-content g c =
+    gives_part c.take.new.self c.in-Some.answer (IsUnder_ready c.loop-self.invariant.under c.in-Bytes.ensures.content) c.in-Some.ensures
+
+pub returns-in-Some-clause-keeps : goal.returns-in-Some-clause-keeps
+returns-in-Some-clause-keeps g c =
+    keeps_part c.take.new.self c.in-Some.answer (IsUnder_ready c.loop-self.invariant.under c.in-Bytes.ensures.content) c.in-Some.ensures
+
+pub returns-in-Failed-clause-content : goal.returns-in-Failed-clause-content
+returns-in-Failed-clause-content g c =
+    gives_failed (g.S.Source.left c.ready.new.source) c.loop-self.invariant.under c.in-Failed.ensures.content.0 c.in-Failed.ensures.content.1
+
+pub returns-in-Failed-clause-keeps : goal.returns-in-Failed-clause-keeps
+returns-in-Failed-clause-keeps g c =
+    keeps_failed c.loop-self.invariant.under c.in-Failed.ensures.content.0

@@ -1,0 +1,34 @@
+use Rattle.std.proofs.Common.{arith}
+use Rattle.peg_model.specs.Packet.{CopyData}
+use Rattle.peg_model.specs.Reading.{one_at, key_at, past_key, content_at}
+use Rattle.peg_grammar.proofs.Parts.{copy_data_says, copy_data_whole}
+use Rattle.peg_packet.proofs.read.copy_data.Goals as goal
+
+pub returns-in_default : goal.returns-in_default
+returns-in_default c =
+    λ format begun ranges spelled. c.in_default.ensures
+    (copy_data_says format _ _ _ _ _ c.args.bytes.now spelled)
+
+pub bounds-bytes-4 : goal.bounds-bytes-4
+bounds-bytes-4 c =
+    omega (arith, c.in-Some.ensures.fits)
+
+pub bounds-bytes-5 : goal.bounds-bytes-5
+bounds-bytes-5 c =
+    omega (arith, c.in-Some.ensures.fits)
+
+pub eight_at-requires : goal.eight_at-requires
+eight_at-requires c =
+    omega (arith, c.in-Some.ensures.fits)
+
+pub returns : goal.returns
+returns c =
+    λ format begun. (
+      λ i. CopyData (one_at c.args.bytes.now 4) (one_at c.args.bytes.now 5)
+          (c.eight_at.ensures.number i) (c.in-Some.ensures.key_is i)
+          (c.in-Some.ensures.content_is i),
+      copy_data_whole format c.args.bytes.now
+          (key_at c.args.bytes.now 14) (content_at c.args.bytes.now (past_key c.args.bytes.now 14))
+          begun (omega (arith, c.in-Some.ensures.fits)) c.eight_at.ensures.split
+          c.in-Some.ensures.whole,
+    )

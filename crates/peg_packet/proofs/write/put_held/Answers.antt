@@ -1,0 +1,11 @@
+use Rattle.peg_packet.proofs.Putting.{puts_then}
+use Rattle.peg_model.specs.Packet.{spelling}
+use Rattle.peg_packet.proofs.write.put_held.Goals as goal
+
+pub returns : goal.returns
+unfolding spelling
+returns c =
+    puts_then
+    (puts_then (puts_then c.put_begin-at.ensures c.put_server-at.ensures)
+    c.put_version-at.ensures)
+    c.put_key.ensures

@@ -1,0 +1,54 @@
+use crate::*;
+use peg_packet::{encode, is_in_range};
+use std::test::Fail;
+
+#[test]
+fn writes_and_reads_are_answered(rt: HostRuntime) -> Result<(), Fail> {
+    let config = Config::make(1, 3, 2, 1, 1, 1, 5)?;
+    let id = ServerId(0);
+    assert!(rt; u64::from(id.0) < config.servers());
+    let mut server = Server::make(rt.alloc(), &config, id);
+    let mut post = Post::make(rt.alloc(), config.format(), 3)?;
+    let (client, switch, version) = (ClientId(0), SwitchId(0), Version(5));
+    let packets = [
+        Packet::ToServerWrite {
+            client,
+            seq: Seq(1),
+            version,
+            server: id,
+            switch,
+            key: b"k",
+            content: Some(b"x"),
+        },
+        Packet::ToServerRead {
+            client,
+            seq: Seq(2),
+            server: id,
+            switch,
+            key: b"k",
+        },
+        Packet::ToServerRead {
+            client,
+            seq: Seq(2),
+            server: ServerId(1),
+            switch,
+            key: b"k",
+        },
+    ];
+    let key = Key::read(b"k")?;
+    let dids = [
+        ServerDid::Applied { key, version },
+        ServerDid::Read { key, version },
+        ServerDid::OutOfPlace,
+    ];
+    let mut bytes = [0; 1152];
+    for (packet, did) in packets.iter().zip(&dids) {
+        assert!(rt; is_in_range(config.format(), packet));
+        let len = encode(config.format(), packet, &mut bytes);
+        assert!(rt; len <= 1152 && post.len() < post.slots());
+        assert!(rt; post.format() == server.config().format());
+        assert_eq!(rt; server.step(&bytes[..len], &mut post)?, *did);
+    }
+    assert_eq!(rt; post.len(), 2);
+    Ok(())
+}

@@ -1,0 +1,12 @@
+pub mod Appends
+pub mod Cuts
+pub mod Spelled
+pub mod Readers
+pub mod Numbers
+pub mod Spells
+pub mod Spaces
+pub mod Lines
+pub mod EventLines
+pub mod EntryLines
+pub mod RackLines
+pub mod OpLines

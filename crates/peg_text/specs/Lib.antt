@@ -1,0 +1,6 @@
+pub mod Rest
+pub mod Reading
+pub mod Events
+pub mod EntryLine
+pub mod Racks
+pub mod Ops

@@ -1,0 +1,245 @@
+//! The lines of a schedule, read.
+ghost use Rattle.std.specs.Prelude.{◌≡◌, ◌≤◌, ◌<◌, IfSome, option_map, codes};
+ghost use Rattle.peg_name.specs.Name.{value_most};
+ghost use Rattle.peg_text.specs.Reading.{next_by, both_by, number_below, words_of};
+ghost use Rattle.peg_text.specs.Events as events;
+ghost use Rattle.peg_text.specs.EntryLine.{IsEntryLine};
+ghost use Rattle.peg_model.specs.Schedule.{IsEventLine};
+ghost use Rattle.peg_event.specs.declared.Event as book;
+
+use crate::words::{Words, number_of};
+use peg_event::Event;
+use peg_name::{ClientId, Config, Format, Key, Node, ServerId, SwitchId, Value};
+
+/// A line of a schedule behind the rack line.
+#[derive(Clone, Copy, Debug)]
+pub enum Entry {
+    Event(Event),
+    End,
+}
+
+fn read_client(config: &Config, words: &mut Words<'_>) -> Option<ClientId>
+    ensures { option_map (λ client. (client, words.new)) result
+        ≡ events.read_client config.now words.old }
+{
+    let number = words.number_below(config.clients())?;
+    Some(ClientId(number as u16))
+}
+
+fn read_server(config: &Config, words: &mut Words<'_>) -> Option<ServerId>
+    ensures { option_map (λ server. (server, words.new)) result
+        ≡ next_by (number_below config.now.servers) words.old }
+{
+    let number = words.number_below(config.servers())?;
+    Some(ServerId(number as u8))
+}
+
+fn read_switch(config: &Config, words: &mut Words<'_>) -> Option<SwitchId>
+    ensures { option_map (λ switch. (switch, words.new)) result
+        ≡ next_by (number_below config.now.switches) words.old }
+{
+    let number = words.number_below(config.switches())?;
+    Some(SwitchId(number as u8))
+}
+
+fn read_target(words: &mut Words<'_>) -> Option<u8>
+    ensures { option_map (λ target. (target, words.new)) result ≡ events.read_target words.old }
+{
+    let number = words.number_below(256)?;
+    Some(number as u8)
+}
+
+fn most_of_value(format: Format) -> usize
+    ensures most { result ≡ value_most format }
+    ensures few { result ≤ 1024 }
+{
+    match format {
+        Format::One => 512,
+        Format::Two => 1024,
+    }
+}
+
+fn read_value(config: &Config, words: &mut Words<'_>) -> Option<Value>
+    ensures { option_map (λ value. (value, words.new)) result
+        ≡ events.read_value config.now words.old }
+{
+    words.value(most_of_value(config.format()))
+}
+
+fn read_client_key(config: &Config, words: &mut Words<'_>) -> Option<(ClientId, Key)>
+    ensures { option_map (λ read. (read, words.new)) result
+        ≡ both_by (events.read_client config.now) events.read_key words.old }
+{
+    let client = read_client(config, words)?;
+    let key = words.key()?;
+    Some((client, key))
+}
+
+// The pick is 0 where the line ends before it.
+fn read_pick(words: &mut Words<'_>) -> Option<u64>
+    ensures { option_map (λ pick. (pick, words.new)) result ≡ events.read_pick words.old }
+{
+    match words.next() {
+        Some(word) => number_of(word),
+        None => Some(0),
+    }
+}
+
+fn read_node(config: &Config, words: &mut Words<'_>) -> Option<Node>
+    ensures { option_map (λ node. (node, words.new)) result
+        ≡ events.read_node config.now words.old }
+{
+    let word = words.next()?;
+    if word == b"client".as_slice() {
+        Some(Node::Client(read_client(config, words)?))
+    } else if word == b"server".as_slice() {
+        Some(Node::Server(read_server(config, words)?))
+    } else if word == b"switch".as_slice() {
+        Some(Node::Switch(read_switch(config, words)?))
+    } else if word == b"controller".as_slice() {
+        Some(Node::Controller)
+    } else {
+        None
+    }
+}
+
+fn bare_event(verb: &[u8]) -> Option<Event>
+    ensures { result ≡ events.bare_event verb.now }
+{
+    if verb == b"clear".as_slice() {
+        Some(Event::Clear)
+    } else if verb == b"retry".as_slice() {
+        Some(Event::Retry)
+    } else if verb == b"survey".as_slice() {
+        Some(Event::Survey)
+    } else {
+        None
+    }
+}
+
+fn control_event(verb: &[u8], words: &mut Words<'_>) -> Option<Event>
+    ensures { option_map (λ event. (event, words.new)) result
+        ≡ events.control_event verb.now words.old }
+{
+    if verb == b"promote".as_slice() {
+        let key = words.key()?;
+        return Some(Event::Promote { key });
+    }
+    if verb == b"demote".as_slice() {
+        let key = words.key()?;
+        return Some(Event::Demote { key });
+    }
+    if verb == b"copy".as_slice() {
+        let key = words.key()?;
+        let target = read_target(words)?;
+        return Some(Event::Copy { key, target });
+    }
+    if verb == b"fence".as_slice() {
+        let key = words.key()?;
+        return Some(Event::Fence { key });
+    }
+    if verb == b"handover".as_slice() {
+        let target = read_target(words)?;
+        return Some(Event::Handover { target });
+    }
+    if verb == b"plan".as_slice() {
+        let promote_at = words.number()?;
+        let demote_below = words.number()?;
+        return Some(Event::Plan {
+            promote_at,
+            demote_below,
+        });
+    }
+    bare_event(verb)
+}
+
+fn packet_event(config: &Config, verb: &[u8], words: &mut Words<'_>) -> Option<Event>
+    ensures { option_map (λ event. (event, words.new)) result
+        ≡ events.packet_event config.now verb.now words.old }
+{
+    if verb == b"deliver".as_slice() {
+        let packet = words.number()?;
+        let pick = read_pick(words)?;
+        return Some(Event::Deliver { packet, pick });
+    }
+    if verb == b"junk".as_slice() {
+        let to = read_node(config, words)?;
+        let bytes = words.junk()?;
+        return Some(Event::Junk { to, bytes });
+    }
+    control_event(verb, words)
+}
+
+fn read_delete(config: &Config, words: &mut Words<'_>) -> Option<Event>
+    ensures { option_map (λ event. (event, words.new)) result
+        ≡ events.deletes config.now.format config.now words.old }
+{
+    match config.format() {
+        Format::One => None,
+        Format::Two => {
+            let (client, key) = read_client_key(config, words)?;
+            Some(Event::Delete { client, key })
+        }
+    }
+}
+
+fn event_by(config: &Config, verb: &[u8], words: &mut Words<'_>) -> Option<Event>
+    ensures { option_map (λ event. (event, words.new)) result
+        ≡ events.event_by config.now verb.now words.old }
+{
+    if verb == b"read".as_slice() {
+        let (client, key) = read_client_key(config, words)?;
+        return Some(Event::Read { client, key });
+    }
+    if verb == b"write".as_slice() {
+        let client = read_client(config, words)?;
+        let key = words.key()?;
+        let value = read_value(config, words)?;
+        return Some(Event::Write { client, key, value });
+    }
+    if verb == b"delete".as_slice() {
+        return read_delete(config, words);
+    }
+    if verb == b"resend".as_slice() {
+        let client = read_client(config, words)?;
+        return Some(Event::Resend { client });
+    }
+    if verb == b"giveup".as_slice() {
+        let client = read_client(config, words)?;
+        return Some(Event::GiveUp { client });
+    }
+    packet_event(config, verb, words)
+}
+
+fn event_in(config: &Config, line: &[u8]) -> Option<Event>
+    ensures { result ≡ events.event_in config.now (words_of line.now) }
+{
+    let mut words = Words::of(line);
+    let verb = words.next()?;
+    let event = event_by(config, verb, &mut words)?;
+    match words.next() {
+        Some(_more) => None,
+        None => Some(event),
+    }
+}
+
+fn entry_of(config: &Config, line: &[u8]) -> Option<Entry>
+    ensures { result ≡ events.entry_of config.now line.now }
+{
+    match event_in(config, line) {
+        Some(event) => Some(Entry::Event(event)),
+        None if line == b"end".as_slice() => Some(Entry::End),
+        None => None,
+    }
+}
+
+/// What a line of a schedule says behind the rack line. `None`: it is outside the grammar.
+pub fn event_of(config: &Config, line: &[u8]) -> Option<Entry>
+    ensures event { (e : book.Event) → IsEventLine config.now line.now e → result
+        ≡ Some (Entry.Event e) }
+    ensures end { line.now ≡ codes "end" → result ≡ Some Entry.End }
+    ensures sound { IfSome result (IsEntryLine config.now line.now) }
+{
+    prove!(config.clients() > 0);
+    entry_of(config, line)
+}

@@ -1,0 +1,18 @@
+//! The words and lines of texts, read and printed.
+#![tactic(auto)]
+
+mod event;
+mod op;
+mod print;
+mod rack;
+mod spelling;
+#[cfg(test)]
+mod tests;
+mod text;
+mod words;
+
+pub use event::{Entry, event_of};
+pub use op::op_of;
+pub use print::{body_text, history_text, line_text, op_text, order_text, place_text, said_text};
+pub use rack::{Rack, rack_of};
+pub use text::Text;

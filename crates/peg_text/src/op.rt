@@ -1,0 +1,140 @@
+//! The lines of operations, read.
+ghost use Rattle.std.specs.Prelude.{◌≡◌, ℕ, IfSome, option_map, codes};
+ghost use Rattle.peg_model.specs.Judge.{IsOpLine};
+ghost use Rattle.peg_event.specs.declared.Op as book;
+ghost use Rattle.peg_text.specs.Reading.{words_of};
+ghost use Rattle.peg_text.specs.Ops as ops;
+
+use crate::words::Words;
+use peg_event::{Act, Op};
+use peg_name::{ClientId, Content};
+
+fn read_issued(words: &mut Words<'_>) -> Option<u64>
+    ensures { option_map (λ issued. ((tt, issued), words.new)) result ≡ ops.read_issued words.old }
+{
+    words.literal(b"issued")?;
+    words.number()
+}
+
+fn read_given(words: &mut Words<'_>) -> Option<Option<(u64, Content)>>
+    ensures { option_map (λ given. (given, words.new)) result ≡ ops.read_given words.old }
+{
+    let word = words.next()?;
+    if word == b"open".as_slice() {
+        Some(None)
+    } else if word == b"answered".as_slice() {
+        let at = words.number()?;
+        let content = words.content()?;
+        Some(Some((at, content)))
+    } else {
+        None
+    }
+}
+
+fn read_end(words: &mut Words<'_>) -> Option<Option<u64>>
+    ensures { option_map (λ end. (end, words.new)) result ≡ ops.read_end words.old }
+{
+    let word = words.next()?;
+    if word == b"open".as_slice() {
+        Some(None)
+    } else if word == b"answered".as_slice() {
+        Some(Some(words.number()?))
+    } else {
+        None
+    }
+}
+
+fn read_read(client: ClientId, words: &mut Words<'_>) -> Option<Op>
+    ensures { option_map (λ op. (op, words.new)) result
+        ≡ ops.op_by client (codes "read") words.old }
+{
+    let key = words.key()?;
+    let issued = read_issued(words)?;
+    let (answered, content) = match read_given(words)? {
+        Some((at, content)) => (Some(at), content),
+        None => (None, Content::Absent),
+    };
+    Some(Op {
+        client,
+        key,
+        act: Act::Read,
+        content,
+        issued,
+        answered,
+    })
+}
+
+fn read_write(client: ClientId, words: &mut Words<'_>) -> Option<Op>
+    ensures { option_map (λ op. (op, words.new)) result
+        ≡ ops.op_by client (codes "write") words.old }
+{
+    let key = words.key()?;
+    let content = words.content()?;
+    let issued = read_issued(words)?;
+    let answered = read_end(words)?;
+    Some(Op {
+        client,
+        key,
+        act: Act::Write,
+        content,
+        issued,
+        answered,
+    })
+}
+
+fn read_tail(client: ClientId, words: &mut Words<'_>) -> Option<Op>
+    ensures { option_map (λ op. (op, words.new)) result ≡ ops.read_tail client words.old }
+{
+    let verb = words.next()?;
+    if verb == b"read".as_slice() {
+        read_read(client, words)
+    } else if verb == b"write".as_slice() {
+        read_write(client, words)
+    } else {
+        None
+    }
+}
+
+fn read_op(words: &mut Words<'_>) -> Option<(u32, Op)>
+    ensures { option_map (λ op. (op, words.new)) result ≡ ops.read_op words.old }
+{
+    words.literal(b"op")?;
+    let number = words.number_below(4294967296)?;
+    words.literal(b"client")?;
+    let client = words.number_below(1024)?;
+    let op = read_tail(ClientId(client as u16), words)?;
+    Some((number as u32, op))
+}
+
+// An operation is issued behind the rack line, and answered later.
+fn is_timed(op: &Op) -> bool
+    ensures { result ≡ ops.is_timed op.now }
+{
+    if op.issued < 2 {
+        return false;
+    }
+    match op.answered {
+        Some(at) => op.issued < at,
+        None => true,
+    }
+}
+
+fn op_in(line: &[u8]) -> Option<(u32, Op)>
+    ensures { result ≡ ops.op_of line.now }
+{
+    let mut words = Words::of(line);
+    let (number, op) = read_op(&mut words)?;
+    if words.next().is_some() || !is_timed(&op) {
+        return None;
+    }
+    Some((number, op))
+}
+
+/// What an operation's line says: its number, and the operation. `None`: it is outside the grammar.
+pub fn op_of(line: &[u8]) -> Option<(u32, Op)>
+    ensures sound { IfSome result (λ r. IsOpLine line.now r.0 r.1) }
+    ensures complete { (number : ℕ) (op : book.Op) → IsOpLine line.now number op → result
+        ≡ Some (number, op) }
+{
+    op_in(line)
+}

@@ -1,0 +1,185 @@
+//! A line that is printed, piece by piece.
+ghost use Rattle.std.specs.Prelude.{◌≡◌, ◌+◌, ◌*◌, ◌≤◌, ◌++◌, [], length, codes, decimal};
+ghost use Rattle.peg_model.specs.Text.{key_word, content_word};
+
+use crate::spelling::{Form, spelling_of};
+use arrayvec::ArrayVec;
+use itoa::Buffer;
+use peg_name::{ClientId, Content, Key, Seq, ServerId, SwitchId, Version};
+use std::marker::Model;
+
+/// A line of text: up to 4,096 bytes, held in place. A contract sees the list of the bytes.
+#[derive(Drop)]
+pub struct Text {
+    bytes: ArrayVec<u8, 4096>,
+}
+
+impl Model for Text {
+    ghost use Rattle.std.specs.Prelude.{List, ℕ};
+
+    ghost Value = { List ℕ };
+
+    ghost view = { λ t. t.bytes.items };
+}
+
+impl Text {
+    /// A text with no byte.
+    pub fn make() -> Text
+        ensures { result ≡ [] }
+    {
+        Text {
+            bytes: ArrayVec::new(),
+        }
+    }
+
+    /// What was printed, without a line feed.
+    pub fn bytes(&self) -> &[u8]
+        ensures bytes { result.now ≡ self.now }
+        ensures fits { length result.now ≤ 4096 }
+    {
+        self.bytes.as_slice()
+    }
+
+    pub(crate) fn clear(&mut self)
+        ensures { self.new ≡ [] }
+    {
+        self.bytes.clear();
+    }
+
+    pub(crate) fn push_bytes(&mut self, bytes: &[u8])
+        requires { length self.old + length bytes.now ≤ 4096 }
+        ensures text { self.new ≡ self.old ++ bytes.now }
+        ensures room { length self.new ≡ length self.old + length bytes.now }
+    {
+        self.bytes.try_extend_from_slice(bytes).unwrap();
+    }
+
+    pub(crate) fn push_number(&mut self, number: u64)
+        requires { length self.old + 20 ≤ 4096 }
+        ensures text { self.new ≡ self.old ++ decimal number }
+        ensures room { length self.new ≤ length self.old + 20 }
+    {
+        let mut buffer = Buffer::new();
+        self.push_bytes(buffer.format(number).as_bytes());
+    }
+
+    fn push_all_spelled(&mut self, bytes: &[u8])
+        requires { length self.old + 3 * length bytes.now ≤ 4096 }
+        ensures text { self.new ≡ self.old ++ key_word bytes.now }
+        ensures room { length self.new ≤ length self.old + 3 * length bytes.now }
+    {
+        for byte in bytes {
+            self.push_bytes(spelling_of(Form::Word, *byte).as_slice());
+        }
+    }
+
+    pub(crate) fn push_key(&mut self, key: &Key)
+        requires { length self.old + 96 ≤ 4096 }
+        ensures text { self.new ≡ self.old ++ key_word key.now }
+        ensures room { length self.new ≤ length self.old + 96 }
+    {
+        self.push_all_spelled(key.bytes());
+    }
+
+    pub(crate) fn push_content(&mut self, content: &Content)
+        requires { length self.old + 3073 ≤ 4096 }
+        ensures text { self.new ≡ self.old ++ content_word content.now }
+        ensures room { length self.new ≤ length self.old + 3073 }
+    {
+        match content {
+            Content::Absent => self.push_bytes(b"-"),
+            Content::Present(value) => {
+                self.push_bytes(b"=");
+                self.push_all_spelled(value.bytes());
+            }
+        }
+    }
+
+    pub(crate) fn push_word_number(&mut self, word: &[u8], number: u64)
+        requires { length self.old + length word.now + 20 ≤ 4096 }
+        ensures text { self.new ≡ self.old ++ (word.now ++ decimal number) }
+        ensures room { length self.new ≤ length self.old + length word.now + 20 }
+    {
+        self.push_bytes(word);
+        self.push_number(number);
+    }
+
+    pub(crate) fn push_server(&mut self, word: &[u8], server: &ServerId)
+        requires { length self.old + length word.now + 20 ≤ 4096 }
+        ensures text { self.new ≡ self.old ++ (word.now ++ decimal server.now) }
+        ensures room { length self.new ≤ length self.old + length word.now + 20 }
+    {
+        self.push_word_number(word, u64::from(server.0));
+    }
+
+    pub(crate) fn push_client(&mut self, word: &[u8], client: &ClientId)
+        requires { length self.old + length word.now + 20 ≤ 4096 }
+        ensures text { self.new ≡ self.old ++ (word.now ++ decimal client.now) }
+        ensures room { length self.new ≤ length self.old + length word.now + 20 }
+    {
+        self.push_word_number(word, u64::from(client.0));
+    }
+
+    pub(crate) fn push_switch(&mut self, word: &[u8], switch: &SwitchId)
+        requires { length self.old + length word.now + 20 ≤ 4096 }
+        ensures text { self.new ≡ self.old ++ (word.now ++ decimal switch.now) }
+        ensures room { length self.new ≤ length self.old + length word.now + 20 }
+    {
+        self.push_word_number(word, u64::from(switch.0));
+    }
+
+    pub(crate) fn push_seq(&mut self, word: &[u8], seq: &Seq)
+        requires { length self.old + length word.now + 20 ≤ 4096 }
+        ensures text { self.new ≡ self.old ++ (word.now ++ decimal seq.now) }
+        ensures room { length self.new ≤ length self.old + length word.now + 20 }
+    {
+        self.push_word_number(word, seq.0);
+    }
+
+    pub(crate) fn push_version(&mut self, word: &[u8], version: &Version)
+        requires { length self.old + length word.now + 20 ≤ 4096 }
+        ensures text { self.new ≡ self.old ++ (word.now ++ decimal version.now) }
+        ensures room { length self.new ≤ length self.old + length word.now + 20 }
+    {
+        self.push_word_number(word, version.0);
+    }
+
+    pub(crate) fn push_word_key(&mut self, word: &[u8], key: &Key)
+        requires { length self.old + length word.now + 96 ≤ 4096 }
+        ensures text { self.new ≡ self.old ++ (word.now ++ key_word key.now) }
+        ensures room { length self.new ≤ length self.old + length word.now + 96 }
+    {
+        self.push_bytes(word);
+        self.push_key(key);
+    }
+
+    pub(crate) fn push_numbers(&mut self, word: &[u8], number: u64, other: &[u8], second: u64)
+        requires { length self.old + length word.now + length other.now + 40 ≤ 4096 }
+        ensures text { self.new
+            ≡ self.old ++ (word.now ++ decimal number ++ other.now ++ decimal second) }
+        ensures room { length self.new ≤ length self.old + length word.now + length other.now + 40 }
+    {
+        self.push_word_number(word, number);
+        self.push_word_number(other, second);
+    }
+
+    pub(crate) fn push_key_version(&mut self, word: &[u8], key: &Key, version: &Version)
+        requires { length self.old + length word.now + 125 ≤ 4096 }
+        ensures text { self.new ≡ self.old ++ (word.now ++ key_word key.now ++ codes " version "
+            ++ decimal version.now) }
+        ensures room { length self.new ≤ length self.old + length word.now + 125 }
+    {
+        self.push_word_key(word, key);
+        self.push_version(b" version ", version);
+    }
+
+    pub(crate) fn push_client_seq(&mut self, word: &[u8], client: &ClientId, seq: &Seq)
+        requires { length self.old + length word.now + 45 ≤ 4096 }
+        ensures text { self.new
+            ≡ self.old ++ (word.now ++ decimal client.now ++ codes " seq " ++ decimal seq.now) }
+        ensures room { length self.new ≤ length self.old + length word.now + 45 }
+    {
+        self.push_client(word, client);
+        self.push_seq(b" seq ", seq);
+    }
+}
