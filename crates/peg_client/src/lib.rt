@@ -167,7 +167,8 @@ impl Client {
     #[tactic(auto, using(crate::proofs::Requests::request_in_range))]
     fn request_for<'a>(&self, pending: &'a Pending) -> Packet<'a>
         requires { pending_fits self.now.format (Some pending.now) ≡ true }
-        ensures is { seen result ≡ request_of self.now.id pending.now.seq pending.now.key pending.now.ask }
+        ensures is { seen result ≡ request_of self.now.id pending.now.seq pending.now.key
+            pending.now.ask }
         ensures in_range { in_range self.now.format
             (request_of self.now.id pending.now.seq pending.now.key pending.now.ask) ≡ true }
     {

@@ -61,3 +61,43 @@ fn the_first_reply_answers(rt: HostRuntime) -> Result<(), Fail> {
     assert_eq!(rt; client.step(b"no packet"), ClientDid::Ignored);
     Ok(())
 }
+
+#[test]
+fn writes_are_answered_and_clients_move(rt: HostRuntime) -> Result<(), Fail> {
+    let mut client = Client::new(Format::One, READER, Seq(1));
+    let mut post = Post::make(rt.alloc(), Format::One, 2)?;
+    let key = Key::read(b"k")?;
+    let ask = Ask::Write(Content::Present(Value::read(b"x")?));
+    assert!(rt; post.len() < post.slots() && post.format() == client.format());
+    assert_eq!(rt;
+        client.issue(&key, ask, &mut post),
+        Issue::Sent { seq: Seq(1) }
+    );
+    let (switch, version) = (SwitchId(1), Version(3));
+    let packets = [
+        Packet::WriteReply {
+            client: READER,
+            seq: Seq(1),
+            version,
+            server: ServerId(0),
+            switch: SwitchId(0),
+            key: b"k",
+        },
+        Packet::Announce { epoch: 2, switch },
+    ];
+    let dids = [
+        ClientDid::Wrote {
+            seq: Seq(1),
+            version,
+        },
+        ClientDid::Moved { switch, epoch: 2 },
+    ];
+    let mut bytes = [0; 1152];
+    for (packet, did) in packets.iter().zip(&dids) {
+        assert!(rt; is_in_range(Format::One, packet));
+        let len = encode(Format::One, packet, &mut bytes);
+        assert!(rt; len <= 1152);
+        assert_eq!(rt; client.step(&bytes[..len]), *did);
+    }
+    Ok(())
+}

@@ -13,3 +13,8 @@ pub mod RowsAt
 pub mod Read
 pub mod Most
 pub mod Prefix
+pub mod Cut
+pub mod StateSize
+pub mod Collect
+pub mod Activates
+pub mod CutRows

@@ -90,7 +90,7 @@ two_on bytes front tail i n split at small =
 abbrev pub FitsStamp : ℕ × ℕ → Type 0
 FitsStamp row = (row.0 < 2 ^ 64) × (row.1 < 2 ^ 64)
 
-length_stamps : (rows : List (ℕ × ℕ)) → length (flat_map stamp_bytes rows) ≡ 16 * length rows
+pub length_stamps : (rows : List (ℕ × ℕ)) → length (flat_map stamp_bytes rows) ≡ 16 * length rows
 length_stamps [] = refl
 length_stamps (row ∷ rows) =
     let rest = length_stamps rows in

@@ -1,3 +1,4 @@
 pub mod Rows
 pub mod Fits
 pub mod State
+pub mod Collecting

@@ -71,7 +71,8 @@ unfolding listed Others
 added_new [] E key e others = refl
 added_new (k ∷ keys) E key e (differs, others) =
     ap
-    (λ b. if b then (k, E k ++ option_to_list e) ∷ listed keys E else (k, E k) ∷ added (listed keys E) key e)
+    (λ b. if b then (k, E k ++ option_to_list e) ∷ listed keys E else (k, E k) ∷ added
+    (listed keys E) key e)
     differs
     ∙ ap (λ gs. (k, E k) ∷ gs) (added_new keys E key e others)
 
@@ -93,7 +94,8 @@ added_known (k ∷ keys) E key e (others, apart) found =
     known_if rest true h =
         ap (λ es. (k, es) ∷ listed keys E) (sym (plus_yes E key e k h))
         ∙ ap (λ gs. (k, plus E key e k) ∷ gs)
-        (sym (plus_others keys E key e (subst (λ x. AllByRecursion (λ j. bytes_eq j x ≡ false) keys) (same k key h) others)))
+        (sym (plus_others keys E key e
+        (subst (λ x. AllByRecursion (λ j. bytes_eq j x ≡ false) keys) (same k key h) others)))
     known_if rest false h =
         let more :
         is_in key keys

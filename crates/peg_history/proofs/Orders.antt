@@ -52,7 +52,8 @@ rank_then false false r = refl
 answer_then :
     (a b : Option ℕ) (r : Ordering) → IfSome a (λ at. at < 2 ^ 64) → IfSome b (λ at. at < 2 ^ 64)
     → is_lt
-    (ordering_then (bool_cmp (not (is_some a)) (not (is_some b))) (ordering_then (nat_cmp (unwrap_or a 0) (unwrap_or b 0)) r))
+    (ordering_then (bool_cmp (not (is_some a)) (not (is_some b)))
+    (ordering_then (nat_cmp (unwrap_or a 0) (unwrap_or b 0)) r))
     ≡ lesser (unwrap_or a (last_number + 1)) (unwrap_or b (last_number + 1)) (is_lt r)
 answer_then (Some x) (Some y) r h k = nat_then x y r
 answer_then (Some x) None r h k =
@@ -206,12 +207,14 @@ print_step false s es t rest ts h e = e
 print_step true s es t rest ts h e =
     filter_if (is_seen es) (may_stand t) (entry_of t) rest
     ∙ ap
-    (λ b. cond (may_stand t && (not (not (is_some t.op.answered)) || b)) (entry_of t ∷ filter (is_seen es) rest) (filter (is_seen es) rest))
+    (λ b. cond (may_stand t && (not (not (is_some t.op.answered)) || b))
+    (entry_of t ∷ filter (is_seen es) rest) (filter (is_seen es) rest))
     h
     ∙ ap (λ b. cond b (entry_of t ∷ filter (is_seen es) rest) (filter (is_seen es) rest))
     (print_test (is_some t.op.answered) (is_write t.op.act) (nat_lt 0 t.tag) s)
     ∙ ap
-    (λ zs. cond (is_some t.op.answered || (is_write t.op.act && nat_lt 0 t.tag && s)) (entry_of t ∷ zs) zs)
+    (λ zs. cond (is_some t.op.answered || (is_write t.op.act && nat_lt 0 t.tag && s))
+    (entry_of t ∷ zs) zs)
     e
     ∙ map_if (is_some t.op.answered || (is_write t.op.act && nat_lt 0 t.tag && s)) t ts
 
@@ -236,7 +239,8 @@ printed-entries_of key all range =
     ap (λ es. map (λ e. e.place) (sorted is_before es))
     (filter-entries_of key (entries_of key all) all (has_read-entries_of key all) all)
     ∙ ap (λ es. map (λ e. e.place) es)
-    (map-sorted (filter (is_printed all key) all) (All-filter InRange (is_printed all key) all range))
+    (map-sorted (filter (is_printed all key) all)
+    (All-filter InRange (is_printed all key) all range))
     ∙ places_of (sorted stands_before (filter (is_printed all key) all))
 
 pub printed_is :

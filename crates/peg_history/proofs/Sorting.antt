@@ -77,7 +77,11 @@ module _ {X : Type 0} (before : X → X → Bool) (o : IsStrictWeakOrder before)
           → Up (if b then x ∷ y ∷ ys else y ∷ placed before x ys)
       up_if true e rest =
           let back = o.one_way x y e in (
-            (back, All-map (λ z. before z y ≡ false) (λ z. before z x ≡ false) (λ z h. o.chain z y x h back) ys least),
+            (
+              back,
+              All-map (λ z. before z y ≡ false) (λ z. before z x ≡ false)
+                  (λ z h. o.chain z y x h back) ys least,
+            ),
             (least, up),
           )
       up_if false e rest = (All-placed (λ z. before z y ≡ false) x ys e least, rest)

@@ -47,7 +47,8 @@ abbrev pub entry_cmp : Entry → Entry → Ordering
 entry_cmp a b =
     ordering_then (nat_cmp a.tag b.tag)
     (ordering_then (bool_cmp a.is_read b.is_read)
-    (ordering_then (bool_cmp a.is_open b.is_open) (ordering_then (nat_cmp a.at b.at) (nat_cmp a.place b.place))))
+    (ordering_then (bool_cmp a.is_open b.is_open)
+    (ordering_then (nat_cmp a.at b.at) (nat_cmp a.place b.place))))
 
 abbrev pub is_before : Entry → Entry → Bool
 is_before a b = is_lt (entry_cmp a b)

@@ -40,7 +40,8 @@ pub fn orders_of(
 
 fn groups_of(alloc: Global, history: &History, tags: &[Version]) -> Result<Vec<Group>, OutOfMemory>
     requires { length tags.now ≡ length history.now.ops }
-    ensures groups { IfOk result (λ groups. map group_of groups.items ≡ grouped [] (tagged 0 history.now.ops tags.now)) }
+    ensures groups { IfOk result
+        (λ groups. map group_of groups.items ≡ grouped [] (tagged 0 history.now.ops tags.now)) }
     ensures range { OnOk result (AllByRecursion InRange (tagged 0 history.now.ops tags.now)) }
 {
     let ops = history.ops();
@@ -63,7 +64,8 @@ fn add(
     entry: Option<Entry>,
 ) -> Result<(), OutOfMemory>
     requires { IsIndex known.old (map group_of groups.old.items) }
-    ensures groups { OnOk result (map group_of groups.new.items ≡ added (map group_of groups.old.items) key.now entry) }
+    ensures groups { OnOk result
+        (map group_of groups.new.items ≡ added (map group_of groups.old.items) key.now entry) }
     ensures index { OnOk result (IsIndex known.new (map group_of groups.new.items)) }
 {
     if let Some(index) = place_of(known, key) {
@@ -85,7 +87,8 @@ fn place_of(known: &BTreeMap<Key, usize>, key: &Key) -> Option<usize>
 
 fn extend(groups: &mut Vec<Group>, index: usize, entry: Option<Entry>) -> Result<(), OutOfMemory>
     requires { index < length groups.old.items }
-    ensures { OnOk result (map group_of groups.new.items ≡ extended (map group_of groups.old.items) index entry) }
+    ensures { OnOk result (map group_of groups.new.items ≡ extended (map group_of groups.old.items)
+        index entry) }
 {
     let group = &mut groups[index];
     keep(&mut group.entries, entry)?;

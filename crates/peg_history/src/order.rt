@@ -20,7 +20,8 @@ pub fn order_of(
     key: &Key,
 ) -> Result<KeyOrder, OutOfMemory>
     requires { length tags.now ≡ length history.now.ops }
-    ensures { IfOk result (λ o. o ≡ record { key = key.now; ops = order_of history.now.ops tags.now key.now }) }
+    ensures { IfOk result (λ o. o ≡
+        record { key = key.now; ops = order_of history.now.ops tags.now key.now }) }
 {
     let ops = history.ops();
     let mut entries = Vec::new(alloc);
@@ -81,12 +82,14 @@ pub(crate) fn order_in(
 // Drops the unanswered operations of a tag that wasn't read.
 fn keep_seen(entries: &mut Vec<Entry>, tags: &[u64])
     requires { IsNonDecreasing tags.now }
-    ensures { entries.new.items ≡ filter (λ e. not e.is_open || list_any (λ t. t == e.tag) tags.now) entries.old.items }
+    ensures { entries.new.items ≡ filter (λ e. not e.is_open || list_any (λ t. t == e.tag) tags.now)
+        entries.old.items }
 {
     entries.retain(
         |entry: &Entry| -> bool
             requires { IsNonDecreasing tags.now }
-            ensures { result ≡ (not entry.now.is_open || list_any (λ t. t == entry.now.tag) tags.entry.now) }
+            ensures { result ≡ (not entry.now.is_open || list_any (λ t. t == entry.now.tag)
+                tags.entry.now) }
         { !entry.is_open || is_among(tags, entry.tag) },
     );
 }
@@ -108,7 +111,8 @@ fn places_of(alloc: Global, entries: &[Entry]) -> Result<Ops, OutOfMemory>
 // The tags that were read, in rising order.
 fn read_tags(alloc: Global, entries: &[Entry]) -> Result<Vec<u64>, OutOfMemory>
     ensures rising { IfOk result (λ tags. IsNonDecreasing tags.items) }
-    ensures tags { IfOk result (λ tags. (tag : ℕ) → list_any (λ t. t == tag) tags.items ≡ has_read entries.now tag) }
+    ensures tags { IfOk result
+        (λ tags. (tag : ℕ) → list_any (λ t. t == tag) tags.items ≡ has_read entries.now tag) }
 {
     let mut tags = Vec::new(alloc);
     for entry in entries {

@@ -23,6 +23,7 @@ fn op_of(
 #[test]
 fn orders_by_tag_and_act(rt: HostRuntime) -> Result<(), Fail> {
     let mut history = History::make(rt.alloc());
+    assert!(rt; history.is_empty());
     history.reserve(7)?;
     assert!(rt; history.spare() >= 7);
     let ops = [
@@ -38,6 +39,7 @@ fn orders_by_tag_and_act(rt: HostRuntime) -> Result<(), Fail> {
         assert!(rt; history.len() < 7);
         history.push(op)?;
     }
+    assert!(rt; !history.is_empty());
     let tags = [1, 1, 5, 2, 2, 3, 0].map(|tag| Version(tag));
     assert_eq!(rt; history.len() as usize, tags.len());
     let orders = orders_of(rt.alloc(), &history, &tags)?;

@@ -221,7 +221,8 @@ out-taken_over s key c q (row ∷ rows) ((low, high), all) out h =
         (rest_not (bytes_eq key q) (has_row q rows) k)
     out_if rest false e k =
         rest
-        (λ none. out (both_not (bytes_eq row.key q) (has_row q rows) (first_not (bytes_eq row.key q) (has_row q (taken_over key c rows)) k) none))
+        (λ none. out (both_not (bytes_eq row.key q) (has_row q rows)
+        (first_not (bytes_eq row.key q) (has_row q (taken_over key c rows)) k) none))
         (rest_not (bytes_eq row.key q) (has_row q (taken_over key c rows)) k)
 
 -- a key with no row isn't the one that just got one
@@ -289,7 +290,8 @@ floor_up :
 unfolding floor
 floor_up most rows new e le =
     subst
-    (λ n. (if nat_lt (length rows) most then 0 else least rows) ≤ (if nat_lt n most then 0 else least new))
+    (λ n. (if nat_lt (length rows) most then 0 else least rows) ≤
+    (if nat_lt n most then 0 else least new))
     (sym e) (up_if (nat_lt (length rows) most))
   where
     up_if : (b : Bool) → (if b then 0 else least rows) ≤ (if b then 0 else least new)
@@ -330,7 +332,9 @@ well_if :
       error = 0;
     } ∷ [] else taken_over key (least rows) rows))
     → IsWell most (total + 1)
-    (if h then raised key rows else (if f then rows ++ record { key = key; count = 1; error = 0 } ∷ [] else taken_over key (least rows) rows))
+    (if h then raised key rows else
+    (if f then rows ++ record { key = key; count = 1; error = 0 } ∷ [] else taken_over key
+    (least rows) rows))
     (more_of s key)
 unfolding Bounded more_of
 well_if most total key rows s some small w true f h k table =
@@ -342,7 +346,8 @@ well_if most total key rows s some small w true f h k table =
           at_most (s q) (hit key q) (floor most rows) (floor most (raised key rows))
           (apart_hit key q rows h was) (w.out q was)
           (floor_up most rows (raised key rows) (length-raised key rows)
-          (least_high (least rows) (raised key rows) (least_last rows) (low-raised (least rows) key rows (least_low rows))));
+          (least_high (least rows) (raised key rows) (least_last rows)
+          (low-raised (least rows) key rows (least_low rows))));
     }
 well_if most total key rows s some small w false true h k table =
     let free = floor_free most rows k in
@@ -397,7 +402,8 @@ well_if most total key rows s some small w false false h k table =
           (out-taken_over s key (least rows) q rows w.bounds
           (λ was. let u = w.out q was in omega (arith, u, full)) none)
           (let up = floor_up most rows new (length-taken_over key (least rows) rows)
-          (least_high (least rows) new (least_last rows) (low-taken_over (least rows) (least rows) key rows (omega arith) (least_low rows)))
+          (least_high (least rows) new (least_last rows)
+          (low-taken_over (least rows) (least rows) key rows (omega arith) (least_low rows)))
           in omega (arith, up, full));
     }
 
@@ -435,7 +441,8 @@ see_more : (most total : ℕ) (key : List ℕ) (rows : List Row) → total < las
 see_more most total key rows small =
     let e : (total == last_number) ≡ false = grind (arith, nat_tests) in
     ap
-    (λ b. if b then record { total = total; rows = rows } else record { total = total + 1; rows = rows_after most key rows })
+    (λ b. if b then record { total = total; rows = rows } else
+    record { total = total + 1; rows = rows_after most key rows })
     e
 
 seen_from : ℕ → (List ℕ → ℕ) → List (List ℕ) → List ℕ → ℕ
@@ -489,7 +496,8 @@ all_well most total (key ∷ keys) rows s some small w =
         (λ q. more_of s key q + seen_in q (take (last_number - (total + 1)) keys))
         (λ q. s q + seen_in q (take (last_number - total) (key ∷ keys))) same_seen more in
         subst
-        (λ (d : Counts). IsWell most (counted most d keys).total (counted most d keys).rows (λ q. s q + seen_in q (take (last_number - total) (key ∷ keys))))
+        (λ (d : Counts). IsWell most (counted most d keys).total (counted most d keys).rows
+        (λ q. s q + seen_in q (take (last_number - total) (key ∷ keys))))
         (sym (see_more most total key rows l)) same_well
     next false e rest =
         let full : total ≡ last_number = grind (arith, nat_tests) in
@@ -500,14 +508,16 @@ all_well most total (key ∷ keys) rows s some small w =
           rows = rows;
         } =
         subst
-        (λ n. counted most (record { total = n; rows = rows }) (key ∷ keys) ≡ record { total = n; rows = rows })
+        (λ n. counted most (record { total = n; rows = rows }) (key ∷ keys) ≡
+        record { total = n; rows = rows })
         (sym full) (counted_full most (key ∷ keys) rows) in
         let same_well =
         IsWell_as most total rows s
         (λ q. s q + seen_in q (take (last_number - total) (key ∷ keys)))
         (λ q. let f = ap (λ n. seen_in q (take n (key ∷ keys))) none in omega (arith, f)) w in
         subst
-        (λ (d : Counts). IsWell most d.total d.rows (λ q. s q + seen_in q (take (last_number - total) (key ∷ keys))))
+        (λ (d : Counts). IsWell most d.total d.rows
+        (λ q. s q + seen_in q (take (last_number - total) (key ∷ keys))))
         (sym stays) same_well
 
 sum_low :

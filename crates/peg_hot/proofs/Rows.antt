@@ -47,7 +47,8 @@ raised_none key (row ∷ rows) h =
     let one = first_not (bytes_eq row.key key) (has_row key rows) h in
     let more = rest_not (bytes_eq row.key key) (has_row key rows) h in
     ap
-    (λ b. (if b then record { key = row.key; count = row.count + 1; error = row.error } else row) ∷ raised key rows)
+    (λ b. (if b then record { key = row.key; count = row.count + 1; error = row.error } else row) ∷
+    raised key rows)
     one
     ∙ ap (λ rs. row ∷ rs) (raised_none key rows more)
 
@@ -88,7 +89,8 @@ sum_of-raised key (row ∷ rows) (one, more) h =
     sum_if :
         (has_row key rows ≡ true → sum_of (raised key rows) ≡ sum_of rows + 1) → (b : Bool)
         → bytes_eq row.key key ≡ b
-        → (if b then record { key = row.key; count = row.count + 1; error = row.error } else row).count
+        → (if b then record { key = row.key; count = row.count + 1; error = row.error } else
+        row).count
         + sum_of (raised key rows)
         ≡ row.count + sum_of rows + 1
     sum_if rest true e =
@@ -264,7 +266,8 @@ taken_here key c i rows row lt is e rest =
     (sym (add-one i))
     ∙ sym (rest ∙ ap (λ rs. take i rows ++ taken_over key c rs) split
     ∙ ap
-    (λ b. take i rows ++ (if b then record { key = key; count = c + 1; error = c } ∷ drop (i + 1) rows else row ∷ taken_over key c (drop (i + 1) rows)))
+    (λ b. take i rows ++ (if b then record { key = key; count = c + 1; error = c } ∷ drop (i + 1)
+    rows else row ∷ taken_over key c (drop (i + 1) rows)))
     test)
 
 pub IsDistinct-drop : (i : ℕ) (rows : List Row) → IsDistinct rows → IsDistinct (drop i rows)
@@ -295,7 +298,9 @@ raised_here key i rows row new lt is e d now rest =
     ∙ ap (λ r. take i rows ++ (r ∷ drop (i + 1) rows)) now
     ∙ sym (rest ∙ ap (λ rs. take i rows ++ raised key rs) split
     ∙ ap
-    (λ b. take i rows ++ ((if b then record { key = row.key; count = row.count + 1; error = row.error } else row) ∷ raised key (drop (i + 1) rows)))
+    (λ b. take i rows ++ ((if b then
+    record { key = row.key; count = row.count + 1; error = row.error } else row) ∷ raised key
+    (drop (i + 1) rows)))
     e
     ∙ ap
     (λ rs. take i rows ++ (record { key = row.key; count = row.count + 1; error = row.error } ∷ rs))
@@ -323,9 +328,12 @@ after_push most key items rows out none room is now =
     let less : nat_lt (length items) most ≡ true = grind (arith, nat_tests) in
     is ∙ ap (λ rs. rs ++ record { key = key; count = 1; error = 0 } ∷ []) now
     ∙ sym
-    (ap (λ b. if b then raised key items else (if nat_lt (length items) most then items ++ record { key = key; count = 1; error = 0 } ∷ [] else taken_over key (least items) items)) none
+    (ap (λ b. if b then raised key items else
+    (if nat_lt (length items) most then items ++ record { key = key; count = 1; error = 0 } ∷ []
+    else taken_over key (least items) items)) none
     ∙ ap
-    (λ b. if b then items ++ record { key = key; count = 1; error = 0 } ∷ [] else taken_over key (least items) items)
+    (λ b. if b then items ++ record { key = key; count = 1; error = 0 } ∷ [] else taken_over key
+    (least items) items)
     less)
 
 pub after_take :
@@ -336,7 +344,10 @@ after_take most key c items rows out none full is now small =
     let more : nat_lt (length items) most ≡ false = grind (arith, nat_tests) in
     is ∙ ap (λ n. taken_over key n rows) small ∙ ap (λ rs. taken_over key (least rs) rs) now
     ∙ sym
-    (ap (λ b. if b then raised key items else (if nat_lt (length items) most then items ++ record { key = key; count = 1; error = 0 } ∷ [] else taken_over key (least items) items)) none
+    (ap (λ b. if b then raised key items else
+    (if nat_lt (length items) most then items ++ record { key = key; count = 1; error = 0 } ∷ []
+    else taken_over key (least items) items)) none
     ∙ ap
-    (λ b. if b then items ++ record { key = key; count = 1; error = 0 } ∷ [] else taken_over key (least items) items)
+    (λ b. if b then items ++ record { key = key; count = 1; error = 0 } ∷ [] else taken_over key
+    (least items) items)
     more)

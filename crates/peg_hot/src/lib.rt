@@ -18,10 +18,11 @@ mod tests;
 
 pub use peg_name::OutOfMemory;
 
-/// The counts of every list of keys sum to their total, each is above what was seen of its key by at
-/// most its error, and each key that makes up more than one of `most` parts of the total is kept.
+/// The counts of every list of keys sum to their total, each is above what was seen of its key by
+/// at most its error, and each key that makes up more than one of `most` parts of the total is kept.
 pub fn counts_every_list_well()
-    ensures { (most : ℕ) (keys : List (List ℕ)) → 1 ≤ most → CountsWell most keys (counted most no_counts keys) }
+    ensures { (most : ℕ) (keys : List (List ℕ)) → 1 ≤ most
+        → CountsWell most keys (counted most no_counts keys) }
 {}
 
 /// A table of counts.
@@ -38,9 +39,15 @@ impl Model for Counts {
 
     ghost Value = { Table };
 
-    ghost view = { λ c. record { most = c.most; counts = record { total = c.total; rows = c.rows.items } } };
+    ghost view = { λ c. record {
+      most = c.most;
+      counts = record { total = c.total; rows = c.rows.items };
+    } };
 
-    ghost invariant = { λ c. IsTable (record { most = c.most; counts = record { total = c.total; rows = c.rows.items } }) × (c.most ≤ vec_capacity c.rows) };
+    ghost invariant = { λ c.
+        IsTable
+        (record { most = c.most; counts = record { total = c.total; rows = c.rows.items } })
+        × (c.most ≤ vec_capacity c.rows) };
 }
 
 impl Counts {
@@ -62,7 +69,8 @@ impl Counts {
     pub fn of(alloc: Global, m: u8, keys: &[Key]) -> Result<Counts, OutOfMemory>
         requires least { 1 ≤ m }
         requires most { m ≤ 12 }
-        ensures counts { IfOk result (λ c. c ≡ record { most = m; counts = counted m no_counts keys.now }) }
+        ensures counts { IfOk result
+            (λ c. c ≡ record { most = m; counts = counted m no_counts keys.now }) }
         ensures laws { IfOk result (λ c. CountsWell m keys.now c.counts) }
     {
         let mut counts = Counts::make(alloc, m)?;
@@ -76,7 +84,8 @@ impl Counts {
     /// rows with the least count, whose count becomes its error. At the greatest total nothing is
     /// counted any more.
     pub fn see(&mut self, key: &Key)
-        ensures { self.new ≡ record self.old { counts = see self.old.most self.old.counts key.now } }
+        ensures { self.new
+            ≡ record self.old { counts = see self.old.most self.old.counts key.now } }
     {
         if self.total == u64::MAX {
             return;

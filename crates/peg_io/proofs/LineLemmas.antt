@@ -172,7 +172,8 @@ pub slice_range-later :
 slice_range-later xs from to n within =
     let e : to - from ≡ n + (to - (from + n)) = omega arith in
     sym
-    (rw e (drop-take n (to - (from + n)) (drop from xs) ∙ ap (λ ys. take (to - (from + n)) ys) (drop-drop n from xs)))
+    (rw e (drop-take n (to - (from + n)) (drop from xs) ∙ ap (λ ys. take (to - (from + n)) ys)
+    (drop-drop n from xs)))
 
 pub take-slice_range :
     (xs : List ℕ) (from to n : ℕ) → from + n ≤ to

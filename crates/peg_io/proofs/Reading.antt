@@ -96,8 +96,12 @@ takes_line limit count old mid now is room fits near e more f =
       rest = held;
       fits = omega (arith, ap length line, length-append old.line (line_of old.held));
       near =
-          omega
-          (arith, ap length (ap (λ (n : ReadAhead). n.held) f ∙ ap (λ xs. drop 1 xs) m), length-drop 1 (drop count old.held), length-drop count old.held);
+          omega (
+            arith,
+            ap length (ap (λ (n : ReadAhead). n.held) f ∙ ap (λ xs. drop 1 xs) m),
+            length-drop 1 (drop count old.held),
+            length-drop count old.held,
+          );
     }
 
 -- ---- over several steps
@@ -124,7 +128,8 @@ IsUnder_ready {limit} {held} {old} {now} {before} {mid} {left} under more =
       split =
           Tells_more before mid left (IsSplit held old) (λ b n. old.held ++ b ≡ now.held ++ n)
           (IsSplit held now)
-          (λ b m n e f. e ∙ ap (λ xs. old.line ++ xs) f ∙ ap (λ xs. xs ++ (now.held ++ n)) (sym more.line))
+          (λ b m n e f. e ∙ ap (λ xs. old.line ++ xs) f ∙ ap (λ xs. xs ++ (now.held ++ n))
+          (sym more.line))
           under.split more.same;
     }
 
@@ -138,7 +143,8 @@ IsUnder_more {limit} {held} {old} {now} {before} {left} under all =
           subst HasNoFeed (sym all.line) (HasNoFeed-append old.line old.held under.part all.part);
       fits = all.fits;
       split = Tells_as before left (IsSplit held old) (IsSplit held now)
-          (λ b n e. e ∙ sym (append_assoc old.line old.held n) ∙ ap (λ xs. xs ++ n) (sym all.line) ∙ ap (λ xs. now.line ++ (xs ++ n)) (sym all.none))
+          (λ b n e. e ∙ sym (append_assoc old.line old.held n) ∙ ap (λ xs. xs ++ n) (sym all.line) ∙
+          ap (λ xs. now.line ++ (xs ++ n)) (sym all.none))
           under.split;
     }
 
@@ -190,8 +196,14 @@ gives_too_long {limit} {held} {old} {now} {before} {left} under front =
     (λ b n. GivesTooLong limit (held ++ b) now.line (now.held ++ n))
     (λ b n e. record {
       long =
-          omega
-          (arith, ap (λ xs. length (line_of xs)) e, ap length (line_of-append old.line (old.held ++ n) under.part), length-append old.line (line_of (old.held ++ n)), line_of-longer old.held n, front.long);
+          omega (
+            arith,
+            ap (λ xs. length (line_of xs)) e,
+            ap length (line_of-append old.line (old.held ++ n) under.part),
+            length-append old.line (line_of (old.held ++ n)),
+            line_of-longer old.held n,
+            front.long,
+          );
       taken = front.full;
       rest =
           e ∙ sym (append_assoc old.line old.held n) ∙ ap (λ xs. xs ++ n) front.rest ∙ append_assoc
@@ -212,11 +224,13 @@ front_part limit old now part front =
     ∙ sym (append_assoc old.line (line_of old.held) past) in
     let same : take limit whole ≡ now.line =
     sym
-    (take-append-le limit whole past (omega (arith, length-append old.line (line_of old.held), front.long)))
+    (take-append-le limit whole past
+    (omega (arith, length-append old.line (line_of old.held), front.long)))
     ∙ ap (λ xs. take limit xs) (sym split ∙ front.rest) ∙ take_at now.line now.held limit
     front.full in
     subst HasNoFeed same
-    (HasNoFeed-take limit whole (HasNoFeed-append old.line (line_of old.held) part (HasNoFeed-line_of old.held)))
+    (HasNoFeed-take limit whole
+    (HasNoFeed-append old.line (line_of old.held) part (HasNoFeed-line_of old.held)))
 
 has_front :
     (limit : ℕ) (old now : ReadAhead) → HasNoFeed old.line → TakesFront limit old now
@@ -230,8 +244,14 @@ has_front limit old now part front =
       part = here;
       full = front.full;
       more =
-          omega
-          (arith, ap length same, length-append now.line (line_of now.held), length-append old.line (line_of old.held), front.long, front.full);
+          omega (
+            arith,
+            ap length same,
+            length-append now.line (line_of now.held),
+            length-append old.line (line_of old.held),
+            front.long,
+            front.full,
+          );
       near = front.near;
     }
 
@@ -307,7 +327,8 @@ pub gives_last :
     → Tells before left (λ b n. Gives answer limit (held ++ b) now.line (now.held ++ n))
 gives_last {limit} {held} {old} {now} {before} {mid} left answer is under none told =
     subst
-    (λ (a : NextLine). Tells before left (λ b n. Gives a limit (held ++ b) now.line (now.held ++ n)))
+    (λ (a : NextLine). Tells before left
+    (λ b n. Gives a limit (held ++ b) now.line (now.held ++ n)))
     (sym is)
     (Tells_more before mid left (IsSplit held old) AreNone
     (λ b n. Gives (if length now.line == 0 then next.End else next.Line) limit (held

@@ -55,7 +55,8 @@ more_written bytes rest before mid now n done told =
       told =
           Tells_more before mid now (Appends done.front) (Appends (take n rest))
           (Appends (done.front ++ take n rest))
-          (λ b m k e f. f ∙ ap (λ xs. xs ++ take n rest) e ∙ append_assoc b done.front (take n rest))
+          (λ b m k e f. f ∙ ap (λ xs. xs ++ take n rest) e ∙ append_assoc b done.front
+          (take n rest))
           done.told told;
     }
 

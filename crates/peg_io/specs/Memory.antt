@@ -114,7 +114,10 @@ HasBound w now (Some slot) port =
 abbrev pub HasHeard : Script → Script → Heard → ℕ → List ℕ → Type 0
 HasHeard w now (heard.Bytes n) slot buf =
     Became w.tells
-    (record w { carried = with_turn w.carried (Datagram slot (take n buf)); coming = drop 1 w.coming })
+    (record w {
+      carried = with_turn w.carried (Datagram slot (take n buf));
+      coming = drop 1 w.coming;
+    })
     (record w { tells = false; coming = drop 1 w.coming }) now
 HasHeard w now heard.Nothing slot buf =
     Became w.tells
@@ -129,7 +132,11 @@ lost_after carries lost = if carries then lost else counted lost
 abbrev pub HasSent : Script → Script → Bool → ℕ → ℕ → List ℕ → Type 0
 HasSent w now carries slot port bytes =
     Became w.tells
-    (record w { carried = with_send w.carried slot port bytes; sends = counted w.sends; lost = lost_after carries w.lost })
+    (record w {
+      carried = with_send w.carried slot port bytes;
+      sends = counted w.sends;
+      lost = lost_after carries w.lost;
+    })
     (record w { tells = false; sends = counted w.sends; lost = lost_after carries w.lost }) now
 
 -- a datagram that was carried stands in the buffer, cut to it

@@ -110,7 +110,8 @@ pub trait Wire {
     fn receive(&mut self, slot: u32, buf: &mut [u8]) -> Heard
         requires bound { slot < slots self.old }
         requires room { 0 < length buf.old }
-        ensures content { Tells (carried self.old) (carried self.new) (HasTurn slot buf.new result) }
+        ensures content { Tells (carried self.old) (carried self.new)
+            (HasTurn slot buf.new result) }
         ensures fits { HeardIn result (length buf.new) }
         ensures bound { slots self.new ≡ slots self.old }
         ensures cause { result ≡ Heard.Failed → Rose (faults self.old) (faults self.new) }
@@ -120,7 +121,8 @@ pub trait Wire {
     /// Sends a datagram from a slot to a port; false where that failed.
     fn send(&mut self, slot: u32, port: u16, bytes: &[u8]) -> bool
         requires { slot < slots self.old }
-        ensures content { Tells (carried self.old) (carried self.new) (Attempts slot port bytes.now) }
+        ensures content { Tells (carried self.old) (carried self.new)
+            (Attempts slot port bytes.now) }
         ensures bound { slots self.new ≡ slots self.old }
         ensures cause { IsFalse result → Rose (lost self.old) (lost self.new) }
         ensures later { faults self.old ≤ faults self.new }

@@ -39,7 +39,8 @@ impl Model for Lines {
 
     ghost Value = { ReadAhead };
 
-    ghost view = { λ l. record { held = slice_range l.buf l.start l.end; line = take l.len l.line } };
+    ghost view = { λ l.
+        record { held = slice_range l.buf l.start l.end; line = take l.len l.line } };
 
     ghost invariant = { λ l. InPlace l.buf l.start l.end l.line l.len };
 }
@@ -66,7 +67,8 @@ impl Lines {
         ensures content { Tells (S.left source.old) (S.left source.new)
             (λ b n. Gives result limit (self.old.held ++ b) self.new.line (self.new.held ++ n)) }
         ensures keeps { Keeps result limit self.new }
-        ensures cause { result ≡ NextLine.Failed → Rose (S.faults source.old) (S.faults source.new) }
+        ensures cause { result ≡ NextLine.Failed
+            → Rose (S.faults source.old) (S.faults source.new) }
         ensures later { S.faults source.old ≤ S.faults source.new }
     {
         self.begin();
@@ -180,7 +182,10 @@ impl Lines {
     fn move_to_line(&mut self, count: usize)
         requires held { count ≤ length self.old.held }
         requires fits { length self.old.line + count ≤ 4096 }
-        ensures { self.new ≡ record { held = drop count self.old.held; line = self.old.line ++ take count self.old.held } }
+        ensures { self.new ≡ record {
+          held = drop count self.old.held;
+          line = self.old.line ++ take count self.old.held;
+        } }
     {
         copy_part(&mut self.line, self.len, &self.buf, self.start, count);
         self.start += count;
@@ -191,7 +196,8 @@ impl Lines {
 fn copy_part(place: &mut [u8], at: usize, bytes: &[u8], start: usize, count: usize)
     requires room { at + count ≤ length place.old }
     requires part { start + count ≤ length bytes.now }
-    ensures line { take (at + count) place.new ≡ take at place.old ++ take count (drop start bytes.now) }
+    ensures line { take (at + count) place.new ≡ take at place.old
+        ++ take count (drop start bytes.now) }
     ensures len { length place.new ≡ length place.old }
 {
     place[at..at + count].copy_from_slice(&bytes[start..start + count]);

@@ -32,7 +32,13 @@ impl Model for MemorySource {
 
     ghost Value = { Feed };
 
-    ghost view = { λ s. record { left = drop s.at s.bytes.items; step = s.step; fails = s.fails.items; calls = s.calls; faults = s.faults } };
+    ghost view = { λ s. record {
+      left = drop s.at s.bytes.items;
+      step = s.step;
+      fails = s.fails.items;
+      calls = s.calls;
+      faults = s.faults;
+    } };
 
     ghost invariant = { λ s. (s.at ≤ vec_len s.bytes) × (1 ≤ s.step) };
 }
@@ -42,7 +48,13 @@ impl MemorySource {
     /// calls whose numbers, from 1, stand in `fails`.
     pub fn make(bytes: Vec<u8>, step: usize, fails: Vec<u64>) -> MemorySource
         requires { 1 ≤ step }
-        ensures { result ≡ record { left = bytes.items; step = step; fails = fails.items; calls = 0; faults = 0 } }
+        ensures { result ≡ record {
+          left = bytes.items;
+          step = step;
+          fails = fails.items;
+          calls = 0;
+          faults = 0;
+        } }
     {
         MemorySource {
             bytes,
@@ -120,7 +132,14 @@ impl Model for MemorySink {
 
     ghost Value = { Basin };
 
-    ghost view = { λ s. record { kept = s.kept.items; tells = s.tells; step = s.step; fails = s.fails.items; calls = s.calls; faults = s.faults } };
+    ghost view = { λ s. record {
+      kept = s.kept.items;
+      tells = s.tells;
+      step = s.step;
+      fails = s.fails.items;
+      calls = s.calls;
+      faults = s.faults;
+    } };
 
     ghost invariant = { λ s. 1 ≤ s.step };
 }
@@ -130,7 +149,14 @@ impl MemorySink {
     /// numbers, from 1, stand in `fails`.
     pub fn make(alloc: Global, step: usize, fails: Vec<u64>) -> MemorySink
         requires { 1 ≤ step }
-        ensures { result ≡ record { kept = []; tells = true; step = step; fails = fails.items; calls = 0; faults = 0 } }
+        ensures { result ≡ record {
+          kept = [];
+          tells = true;
+          step = step;
+          fails = fails.items;
+          calls = 0;
+          faults = 0;
+        } }
     {
         MemorySink {
             kept: Vec::new(alloc),
@@ -232,7 +258,20 @@ impl Model for MemoryWire {
 
     ghost use Rattle.peg_io.specs.Seen.{coming_of, turn_of, sent_of};
 
-    ghost view = { λ w. record { carried = record { bound = w.bound.items; turns = map turn_of w.turns.items; attempted = map sent_of w.attempted.items }; tells = w.tells; slots = w.slots; coming = reverse (map coming_of w.script.items); fails = w.fails.items; sends = w.sends; faults = w.faults; lost = w.lost } };
+    ghost view = { λ w. record {
+      carried = record {
+        bound = w.bound.items;
+        turns = map turn_of w.turns.items;
+        attempted = map sent_of w.attempted.items;
+      };
+      tells = w.tells;
+      slots = w.slots;
+      coming = reverse (map coming_of w.script.items);
+      fails = w.fails.items;
+      sends = w.sends;
+      faults = w.faults;
+      lost = w.lost;
+    } };
 
     ghost invariant = { λ w. IsTrue w.tells → vec_len w.bound ≡ w.slots };
 }
@@ -241,7 +280,16 @@ impl MemoryWire {
     /// A wire that takes one entry of the script at each receive, and pauses after its end. The
     /// sends whose numbers, from 1, stand in `fails` fail.
     pub fn make(alloc: Global, mut script: Vec<Scripted>, fails: Vec<u64>) -> MemoryWire
-        ensures { result ≡ record { carried = record { bound = []; turns = []; attempted = [] }; tells = true; slots = 0; coming = map coming_of script.items; fails = fails.items; sends = 0; faults = 0; lost = 0 } }
+        ensures { result ≡ record {
+          carried = record { bound = []; turns = []; attempted = [] };
+          tells = true;
+          slots = 0;
+          coming = map coming_of script.items;
+          fails = fails.items;
+          sends = 0;
+          faults = 0;
+          lost = 0;
+        } }
     {
         script.reverse();
         MemoryWire {
@@ -273,7 +321,7 @@ impl MemoryWire {
         self.bound.get(slot as usize).copied()
     }
 
-    /// The number of turns before a send, its slot, its port and its bytes; none past the kept ones.
+    /// The number of turns before a send, its slot, its port and its bytes; none past those kept.
     pub fn sent(&self, i: usize) -> Option<(u64, u32, u16, &[u8])>
         ensures { option_map sent_read result ≡ slice_get self.now.carried.attempted i }
     {
@@ -289,7 +337,9 @@ impl MemoryWire {
     }
 
     fn keep_turn(&mut self, turn: Turned)
-        ensures { Became self.old.tells (record self.old { carried = with_turn self.old.carried (turn_of turn) }) (record self.old { tells = false }) self.new }
+        ensures { Became self.old.tells
+            (record self.old { carried = with_turn self.old.carried (turn_of turn) })
+            (record self.old { tells = false }) self.new }
     {
         if self.tells && self.turns.push(turn).is_err() {
             self.tells = false;
@@ -297,7 +347,8 @@ impl MemoryWire {
     }
 
     fn attempt(&mut self, slot: u32, port: u16, bytes: &[u8]) -> Result<(), OutOfMemory>
-        ensures ok { OnOk result (self.new ≡ record self.old { carried = with_send self.old.carried slot port bytes.now }) }
+        ensures ok { OnOk result (self.new ≡ record self.old
+            { carried = with_send self.old.carried slot port bytes.now }) }
         ensures err { OnErr result (self.new ≡ self.old) }
     {
         let attempt = Attempt {
@@ -311,7 +362,9 @@ impl MemoryWire {
     }
 
     fn keep_send(&mut self, slot: u32, port: u16, bytes: &[u8])
-        ensures { Became self.old.tells (record self.old { carried = with_send self.old.carried slot port bytes.now }) (record self.old { tells = false }) self.new }
+        ensures { Became self.old.tells
+            (record self.old { carried = with_send self.old.carried slot port bytes.now })
+            (record self.old { tells = false }) self.new }
     {
         if self.tells && self.attempt(slot, port, bytes).is_err() {
             self.tells = false;
@@ -357,7 +410,8 @@ impl Wire for MemoryWire {
         ensures answer { result ≡ hears self.old.coming (length buf.old) }
         ensures after { HasHeard self.old self.new result slot buf.new }
         ensures bytes { HasCarried self.old.coming result buf.new }
-        ensures content { Tells (carried_of self.old) (carried_of self.new) (HasTurn slot buf.new result) }
+        ensures content { Tells (carried_of self.old) (carried_of self.new)
+            (HasTurn slot buf.new result) }
         ensures fits { HeardIn result (length buf.new) }
         ensures bound { self.new.slots ≡ self.old.slots }
         ensures cause { result ≡ Heard.Failed → Rose self.old.faults self.new.faults }
@@ -387,7 +441,8 @@ impl Wire for MemoryWire {
         requires { slot < self.old.slots }
         ensures answer { result ≡ not (is_failing self.old.fails self.old.sends) }
         ensures after { HasSent self.old self.new result slot port bytes.now }
-        ensures content { Tells (carried_of self.old) (carried_of self.new) (Attempts slot port bytes.now) }
+        ensures content { Tells (carried_of self.old) (carried_of self.new)
+            (Attempts slot port bytes.now) }
         ensures bound { self.new.slots ≡ self.old.slots }
         ensures cause { IsFalse result → Rose self.old.lost self.new.lost }
         ensures later { self.old.faults ≤ self.new.faults }

@@ -1,9 +1,9 @@
 -- Sets of servers: what a bit says of the list, and how a server is put into it.
 use Rattle.std.proofs.Common.{◌≡◌, ◌≢◌, ℕ, zero, suc, ◌+◌, ◌-◌, ◌*◌, ◌/◌, ◌%◌, ◌^◌, ◌<◌, ◌≤◌, ◌==◌}
-use Rattle.std.proofs.Common.{Bool, true, false, ◌&&◌, Option, Some, None, List, [], ◌∷◌, length}
+use Rattle.std.proofs.Common.{Bool, true, false, Some, None, List, [], ◌∷◌, length}
 use Rattle.std.proofs.Common.{if◌then◌else◌, refl, arith, ap, sym, ◌∙◌, add-zero, zero-add}
 use Rattle.std.proofs.Common.{sub-one, get_or}
-use Rattle.std.specs.Prelude.{nat_lt, nat_eq, slice_get, count_ones}
+use Rattle.std.specs.Prelude.{nat_eq, slice_get, count_ones}
 use Rattle.std.specs.List.{list_any}
 use Rattle.std.specs.Int.Count.{ones_step}
 use Rattle.std.proofs.lemmas.Bool.{eq-eqb, ne_eqb, lt-ltb, le-ltb}

@@ -5,7 +5,7 @@
 
 ghost use Rattle.std.specs.Prelude.{◌≡◌, ℕ, ◌+◌, ◌-◌, ◌*◌, ◌%◌, ◌^◌, ◌<◌, ◌≤◌, ◌↔◌, List, [], ◌∷◌};
 ghost use Rattle.std.specs.Prelude.{◌++◌, length, take, nat_eq, Some, slice_get, refl, Err, IsErr};
-ghost use Rattle.std.specs.Prelude.{IfOk, IsTrue};
+ghost use Rattle.std.specs.Prelude.{IfOk, IsTrue, nat_lt};
 ghost use Rattle.std.specs.Ordering.{nat_cmp};
 ghost use Rattle.std.specs.Cmp.Lexicographic.{pointwise, slice_cmp, nat_list_eq_equiv};
 ghost use Rattle.std.specs.Cmp.Lexicographic.{nat_list_cmp_total, texts_po, texts_ties};
@@ -542,6 +542,29 @@ impl Config {
         ensures limits { InLimits self.now }
     {
         self.first
+    }
+}
+
+impl Config {
+    /// Whether a client of this number is in the rack.
+    pub fn has_client(&self, client: ClientId) -> bool
+        ensures { result ≡ nat_lt client self.now.clients }
+    {
+        u64::from(client.0) < self.clients
+    }
+
+    /// Whether a server of this number is in the rack.
+    pub fn has_server(&self, server: ServerId) -> bool
+        ensures { result ≡ nat_lt server self.now.servers }
+    {
+        u64::from(server.0) < self.servers
+    }
+
+    /// Whether a switch of this number is in the rack.
+    pub fn has_switch(&self, switch: SwitchId) -> bool
+        ensures { result ≡ nat_lt switch self.now.switches }
+    {
+        u64::from(switch.0) < self.switches
     }
 }
 

@@ -1,4 +1,6 @@
-use crate::{Config, ConfigFault, Holders, Key, KeyFault, ServerId, Value, home};
+use crate::{
+    ClientId, Config, ConfigFault, Format, Holders, Key, KeyFault, ServerId, SwitchId, Value, home,
+};
 use std::test::Fail;
 
 #[test]
@@ -46,6 +48,34 @@ fn the_first_fault_is_named(rt: HostRuntime) {
 }
 
 #[test]
+fn a_rack_tells_its_numbers(rt: HostRuntime) -> Result<(), Fail> {
+    let racks = [
+        (Format::One, [1, 16, 256, 4, 64, 12, 1]),
+        (Format::Two, [2, 64, 1024, 3, 5, 7, 9]),
+    ];
+    for (format, n) in racks {
+        let config = Config::make(n[0], n[1], n[2], n[3], n[4], n[5], n[6])?;
+        assert!(rt; config.format() == format);
+        let told = [
+            config.servers(),
+            config.clients(),
+            config.switches(),
+            config.listed(),
+            config.hot(),
+            config.first(),
+        ];
+        for place in 0..6 {
+            assert_eq!(rt; told[place], n[place + 1], "{n:?} at {place}");
+        }
+    }
+    let rack = Config::make(1, 3, 2, 2, 4, 4, 1)?;
+    assert!(rt; rack.has_client(ClientId(1)) && !rack.has_client(ClientId(2)));
+    assert!(rt; rack.has_server(ServerId(2)) && !rack.has_server(ServerId(3)));
+    assert!(rt; rack.has_switch(SwitchId(1)) && !rack.has_switch(SwitchId(2)));
+    Ok(())
+}
+
+#[test]
 fn holders_rise(rt: HostRuntime) {
     let holders = Holders::only(ServerId(5))
         .with(ServerId(0))
@@ -54,4 +84,8 @@ fn holders_rise(rt: HostRuntime) {
     assert_eq!(rt; holders.count(), 3);
     assert_eq!(rt; holders.nth(1), ServerId(5));
     assert!(rt; holders.has(ServerId(63)) && !holders.has(ServerId(64)));
+    let read = Holders::of_bits(0b1010);
+    assert_eq!(rt; read.count(), 2);
+    assert_eq!(rt; read.nth(0), ServerId(1));
+    assert_eq!(rt; read.nth(1), ServerId(3));
 }

@@ -80,7 +80,8 @@ looked_up :
     → stored_fits format stored ≡ true
     → is_sendable format (unwrap_or rest nothing_held) ≡ true
     → is_sendable format (unwrap_or (cond t (Some stored) rest) nothing_held) ≡ true
-looked_up format true stored rest fits others = sendable_from format stored.version stored.content fits
+looked_up format true stored rest fits others = sendable_from format stored.version stored.content
+    fits
 looked_up format false stored rest fits others = others
 
 found_sendable :

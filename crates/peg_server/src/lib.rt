@@ -102,6 +102,7 @@ impl Server {
         requires { in_range self.now.rack.format (seen packet.now) ≡ true }
         ensures { result ≡ server_takes self.now.rack self.now.id (seen packet.now) }
     {
+        let rack = &self.config;
         match packet {
             Packet::ToServerRead {
                 client,
@@ -114,7 +115,7 @@ impl Server {
                 server,
                 switch,
                 ..
-            } => *server == self.id && self.has_client(*client) && self.has_switch(*switch),
+            } => *server == self.id && rack.has_client(*client) && rack.has_switch(*switch),
             Packet::CopyOrder {
                 switch,
                 server,
@@ -122,33 +123,21 @@ impl Server {
                 ..
             } => {
                 *server == self.id
-                    && self.has_switch(*switch)
-                    && u64::from(target.0) < self.config.servers()
+                    && rack.has_switch(*switch)
+                    && rack.has_server(*target)
                     && !(*target == self.id)
             }
             Packet::CopyData { switch, server, .. } => {
-                *server == self.id && self.has_switch(*switch)
+                *server == self.id && rack.has_switch(*switch)
             }
             Packet::Fence {
                 switch,
                 server,
                 key,
                 ..
-            } => *server == self.id && self.has_switch(*switch) && self.is_home(key),
+            } => *server == self.id && rack.has_switch(*switch) && self.is_home(key),
             _ => false,
         }
-    }
-
-    fn has_client(&self, client: ClientId) -> bool
-        ensures { result ≡ nat_lt client self.now.rack.clients }
-    {
-        u64::from(client.0) < self.config.clients()
-    }
-
-    fn has_switch(&self, switch: SwitchId) -> bool
-        ensures { result ≡ nat_lt switch self.now.rack.switches }
-    {
-        u64::from(switch.0) < self.config.switches()
     }
 
     fn is_home(&self, key: &[u8]) -> bool

@@ -3,13 +3,14 @@ use peg_packet::{encode, is_in_range};
 use std::test::Fail;
 
 #[test]
-fn writes_and_reads_are_answered(rt: HostRuntime) -> Result<(), Fail> {
+fn each_kind_is_served(rt: HostRuntime) -> Result<(), Fail> {
     let config = Config::make(1, 3, 2, 1, 1, 1, 5)?;
     let id = ServerId(0);
     assert!(rt; u64::from(id.0) < config.servers());
     let mut server = Server::make(rt.alloc(), &config, id);
-    let mut post = Post::make(rt.alloc(), config.format(), 3)?;
+    let mut post = Post::make(rt.alloc(), config.format(), 6)?;
     let (client, switch, version) = (ClientId(0), SwitchId(0), Version(5));
+    let target = ServerId(1);
     let packets = [
         Packet::ToServerWrite {
             client,
@@ -34,12 +35,45 @@ fn writes_and_reads_are_answered(rt: HostRuntime) -> Result<(), Fail> {
             switch,
             key: b"k",
         },
+        Packet::CopyOrder {
+            switch,
+            server: id,
+            target,
+            key: b"k",
+        },
+        Packet::CopyData {
+            switch,
+            server: id,
+            version: Version(6),
+            key: b"k",
+            content: Some(b"y"),
+        },
+        Packet::Fence {
+            switch,
+            server: id,
+            version: Version(9),
+            key: b"c",
+        },
     ];
     let key = Key::read(b"k")?;
     let dids = [
         ServerDid::Applied { key, version },
         ServerDid::Read { key, version },
         ServerDid::OutOfPlace,
+        ServerDid::Copied {
+            key,
+            version,
+            target,
+        },
+        ServerDid::Applied {
+            key,
+            version: Version(6),
+        },
+        ServerDid::Fenced {
+            key: Key::read(b"c")?,
+            version: Version(9),
+            held: Version(0),
+        },
     ];
     let mut bytes = [0; 1152];
     for (packet, did) in packets.iter().zip(&dids) {
@@ -49,6 +83,6 @@ fn writes_and_reads_are_answered(rt: HostRuntime) -> Result<(), Fail> {
         assert!(rt; post.format() == server.config().format());
         assert_eq!(rt; server.step(&bytes[..len], &mut post)?, *did);
     }
-    assert_eq!(rt; post.len(), 2);
+    assert_eq!(rt; post.len(), 5);
     Ok(())
 }

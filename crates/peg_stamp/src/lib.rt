@@ -35,7 +35,8 @@ impl Model for Stamper {
 impl Stamper {
     /// The stamper of a rack, which has stamped nothing yet.
     pub fn make(alloc: Global, config: &Config) -> Result<Stamper, OutOfMemory>
-        ensures { IfOk result (λ s. s ≡ record { next = config.now.first; rows = replicate config.now.clients (0, 0) }) }
+        ensures { IfOk result (λ s. s ≡
+            record { next = config.now.first; rows = replicate config.now.clients (0, 0) }) }
     {
         let clients = config.clients();
         let mut rows = Vec::new(alloc);

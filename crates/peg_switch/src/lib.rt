@@ -134,8 +134,9 @@ impl Switch {
         requires { is_so_far (seen packet.now) ≡ true }
         ensures { result ≡ switch_takes self.now.rack (seen packet.now) }
     {
+        let rack = &self.config;
         match packet {
-            Packet::Read { client, .. } | Packet::Write { client, .. } => self.has_client(*client),
+            Packet::Read { client, .. } | Packet::Write { client, .. } => rack.has_client(*client),
             Packet::ReadReply {
                 client,
                 server,
@@ -153,8 +154,8 @@ impl Switch {
                 server,
                 switch,
                 ..
-            } => self.has_client(*client) && self.has_server(*server) && self.has_switch(*switch),
-            Packet::Held { server, .. } => self.has_server(*server),
+            } => rack.has_client(*client) && rack.has_server(*server) && rack.has_switch(*switch),
+            Packet::Held { server, .. } => rack.has_server(*server),
             _ => false,
         }
     }
@@ -166,24 +167,6 @@ impl Switch {
         ensures unlisted { self.now.entries ≡ [] }
     {
         self.id.0 == 0
-    }
-
-    fn has_client(&self, client: ClientId) -> bool
-        ensures { result ≡ nat_lt client self.now.rack.clients }
-    {
-        u64::from(client.0) < self.config.clients()
-    }
-
-    fn has_server(&self, server: ServerId) -> bool
-        ensures { result ≡ nat_lt server self.now.rack.servers }
-    {
-        u64::from(server.0) < self.config.servers()
-    }
-
-    fn has_switch(&self, switch: SwitchId) -> bool
-        ensures { result ≡ nat_lt switch self.now.rack.switches }
-    {
-        u64::from(switch.0) < self.config.switches()
     }
 
     /// Serves a packet that is for this switch while it is active, as one step.

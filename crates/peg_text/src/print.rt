@@ -71,7 +71,8 @@ fn push_noted(server: &ServerId, version: &Version, note: &Note, out: &mut Text)
 
 fn push_voided(client: &ClientId, seq: &Seq, version: &Version, out: &mut Text)
     requires { length out.old + 200 ≤ 4096 }
-    ensures text { out.new ≡ out.old ++ trace.switch_text (SwitchDid.Voided client.now seq.now version.now) }
+    ensures text { out.new ≡ out.old ++ trace.switch_text
+        (SwitchDid.Voided client.now seq.now version.now) }
     ensures room { length out.new ≤ length out.old + 200 }
 {
     out.push_client_seq(b"voids client ", client, seq);

@@ -1,4 +1,4 @@
-use Rattle.std.proofs.Common.{arith, ap, sym, ◌∙◌, nat_eq, false, true, ◌≡◌, ◌+◌, ◌^◌, ◌<◌}
+use Rattle.std.proofs.Common.{arith, ap, sym, ◌∙◌, nat_eq, ◌+◌, ◌^◌, ◌<◌}
 use Rattle.std.specs.List.{list_any}
 use Rattle.peg_name.specs.Holders.{servers_of, with_holder}
 use Rattle.peg_name.proofs.Servers.{with_kept, with_put, with_fits}

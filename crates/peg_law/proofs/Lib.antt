@@ -1,0 +1,11 @@
+pub mod Lists
+pub mod Known
+pub mod Servers
+pub mod Controllers
+pub mod Switches
+pub mod Events
+pub mod Runs
+pub mod Hops
+pub mod Answers
+pub mod Rounds
+pub mod Sample
