@@ -9,7 +9,7 @@ use Rattle.std.proofs.lemmas.Bool.Decides.{nat_tests}
 use Rattle.peg_io.specs.Outside.{Tells, Stays, AreNone}
 use Rattle.peg_io.specs.Lines.{ReadAhead, line_of, past_line, HasNoFeed, Gives, GivesLine}
 use Rattle.peg_io.specs.Lines.{GivesTooLong, GivesPart, TakesAll, TakesLine, TakesFront, TakesPart}
-use Rattle.peg_io.specs.Lines.{HasMore, HasNoMore, HasFront, Keeps}
+use Rattle.peg_io.specs.Lines.{HasMore, HasNoMore, HasFront, Keeps, has_feed}
 use Rattle.peg_io.specs.declared.lines.NextLine.{NextLine}
 use Rattle.peg_io.specs.declared.lines.NextLine.TheVariants as next
 use Rattle.peg_io.proofs.Telling.{Tells_more, Tells_as}
@@ -374,3 +374,13 @@ keeps_failed {limit} {held} {old} {now} under none = (
   subst (λ xs. length xs ≤ limit)
       (sym none.line) under.fits,
 )
+
+-- ---- a line feed that is read ahead
+
+pub feed_is_more : (held : List ℕ) → has_feed held ≡ true → 0 < length held
+feed_is_more held feed = grind (arith, nat_tests)
+
+pub feed_ends_line : (held : List ℕ) → HasNoFeed held → has_feed held ≡ true → ⊥
+feed_ends_line held part feed =
+    let same : length (line_of held) ≡ length held = ap length (line_of-last held part) in
+    grind (arith, nat_tests)

@@ -2,10 +2,11 @@
 --     ReadAhead      the bytes that were taken and not given yet, and the last line
 --     line_of input      the bytes before the first line feed, or all of them
 --     past_line input      the bytes after the first line feed, or none
+--     has_feed held      whether a line feed is among them
 --     Gives answer limit before line after, Keeps answer limit now      what an answer says of the
 --         input before it, the line and the input after it
-use Rattle.std.specs.Prelude.{◌≡◌, ◌≢◌, ◌<◌, ◌≤◌, ◌+◌, ◌==◌, ℕ, Option, Some, None, List, [], ◌∷◌}
-use Rattle.std.specs.Prelude.{◌++◌, length, if◌then◌else◌}
+use Rattle.std.specs.Prelude.{◌≡◌, ◌≢◌, ◌<◌, ◌≤◌, ◌+◌, ◌==◌, ℕ, Bool, nat_lt, Option, Some, None}
+use Rattle.std.specs.Prelude.{List, [], ◌∷◌, ◌++◌, length, if◌then◌else◌}
 use Rattle.std.specs.List.{AllByRecursion}
 use Rattle.peg_io.specs.Outside.{Tells, Takes, AreNone, Stays}
 use Rattle.peg_io.specs.declared.Got.{Got}
@@ -24,6 +25,9 @@ line_of (b ∷ input) = if b == 10 then [] else b ∷ line_of input
 abbrev pub past_line : List ℕ → List ℕ
 past_line [] = []
 past_line (b ∷ input) = if b == 10 then input else past_line input
+
+abbrev pub has_feed : List ℕ → Bool
+has_feed held = nat_lt (length (line_of held)) (length held)
 
 -- how a reader lies in memory
 pub record InPlace (buf : List ℕ) (start end : ℕ) (line : List ℕ) (len : ℕ) : Type 0 where

@@ -1,6 +1,7 @@
 // What stands between the traits and the system. None of them tells its content.
-ghost use Rattle.std.specs.Prelude.{◌≡◌, ◌≤◌, None, IsFalse};
-ghost use Rattle.peg_io.specs.Outside.{Rose};
+ghost use Rattle.std.specs.Prelude.{◌≡◌, ◌<◌, ◌≤◌, None, IsFalse, length};
+ghost use Rattle.peg_io.specs.Outside.{Rose, Reads, Writes};
+ghost use Rattle.peg_io.specs.Adapted.{ReadsFrom, WritesTo};
 
 use crate::{Got, Heard, Sink, Source, Took, Wire};
 use std::io::{Read, Write};
@@ -16,7 +17,8 @@ pub struct StdSource<R> {
 impl<R: Read> StdSource<R> {
     /// The source of what the reader gives.
     pub fn make(reader: R) -> StdSource<R>
-        ensures { ⟦<StdSource<R> as Source>⟧.faults result ≡ 0 }
+        ensures none { ⟦<StdSource<R> as Source>⟧.faults result ≡ 0 }
+        ensures holds { result.reader ≡ reader }
     {
         StdSource { reader, faults: 0 }
     }
@@ -27,7 +29,14 @@ impl<R: Read> Source for StdSource<R> {
 
     ghost faults = { λ s. s.faults };
 
-    fn read(&mut self, buf: &mut [u8]) -> Got {
+    fn read(&mut self, buf: &mut [u8]) -> Got
+        requires { 0 < length buf.old }
+        ensures content { Reads result buf.new None None }
+        ensures later { self.old.faults ≤ self.new.faults }
+        ensures cause { result ≡ Got.Failed → Rose self.old.faults self.new.faults }
+        ensures passes_on { ReadsFrom (R.remaining self.old.reader) (R.remaining self.new.reader)
+            result buf.new }
+    {
         match self.reader.read(buf) {
             Ok(0) => Got::End,
             Ok(count) => Got::Bytes(count),
@@ -49,7 +58,8 @@ pub struct StdSink<W> {
 impl<W: Write> StdSink<W> {
     /// The sink that hands on to the writer.
     pub fn make(writer: W) -> StdSink<W>
-        ensures { ⟦<StdSink<W> as Sink>⟧.faults result ≡ 0 }
+        ensures none { ⟦<StdSink<W> as Sink>⟧.faults result ≡ 0 }
+        ensures holds { result.writer ≡ writer }
     {
         StdSink { writer, faults: 0 }
     }
@@ -61,7 +71,14 @@ impl<W: Write> Sink for StdSink<W> {
     ghost faults = { λ s. s.faults };
 
     /// A write that takes nothing counts as a fault.
-    fn write(&mut self, bytes: &[u8]) -> Took {
+    fn write(&mut self, bytes: &[u8]) -> Took
+        requires { 0 < length bytes.now }
+        ensures content { Writes result bytes.now None None }
+        ensures later { self.old.faults ≤ self.new.faults }
+        ensures cause { result ≡ Took.Failed → Rose self.old.faults self.new.faults }
+        ensures passes_on { WritesTo (W.contents self.old.writer) (W.contents self.new.writer)
+            result bytes.now }
+    {
         match self.writer.write(bytes) {
             Ok(count) if count > 0 => Took::Bytes(count),
             _ => {

@@ -1,9 +1,10 @@
 // The reader of lines.
 ghost use Rattle.std.specs.Prelude.{◌≡◌, ℕ, ◌+◌, ◌<◌, ◌≤◌, ◌==◌, [], ◌++◌, length, take, drop};
-ghost use Rattle.std.specs.Prelude.{position, if◌then◌else◌};
+ghost use Rattle.std.specs.Prelude.{position, if◌then◌else◌, true};
 ghost use Rattle.std.specs.Bool.{OnTrue, OnFalse};
 ghost use Rattle.peg_io.specs.Outside.{Rose, Reads, Tells};
 ghost use Rattle.peg_io.specs.Lines.{Gives, Keeps, HasNoFeed, line_of, past_line, Fills, IsReady};
+ghost use Rattle.peg_io.specs.Lines.{has_feed};
 ghost use Rattle.peg_io.specs.Lines.{TakesPart};
 
 use crate::{Got, Source};
@@ -61,12 +62,14 @@ impl Lines {
 
     /// Reads the next line, of at most `limit` bytes without its line feed. Nothing of the input is
     /// lost by an answer: what wasn't given stays read ahead, and after `TooLong` and `Failed` the
-    /// taken bytes of the line are the line in place.
+    /// taken bytes of the line are the line in place. Where a line feed is read ahead, the source is
+    /// not asked.
     pub fn next<S: Source>(&mut self, limit: usize, source: &mut S) -> NextLine
         requires { limit ≤ 4096 }
         ensures content { Tells (S.left source.old) (S.left source.new)
             (λ b n. Gives result limit (self.old.held ++ b) self.new.line (self.new.held ++ n)) }
         ensures keeps { Keeps result limit self.new }
+        ensures ahead { has_feed self.old.held ≡ true → source.new ≡ source.old }
         ensures cause { result ≡ NextLine.Failed
             → Rose (S.faults source.old) (S.faults source.new) }
         ensures later { S.faults source.old ≤ S.faults source.new }
@@ -89,6 +92,14 @@ impl Lines {
         ensures { result.now ≡ self.now.line }
     {
         &self.line[..self.len]
+    }
+
+    /// Whether a line feed is among the bytes that are read ahead, so that the next line is given
+    /// without a read.
+    pub fn holds_line(&self) -> bool
+        ensures { result ≡ has_feed self.now.held }
+    {
+        self.feed_place() < self.end - self.start
     }
 
     fn begin(&mut self)
@@ -133,6 +144,7 @@ impl Lines {
     // Fills the buffer where nothing is read ahead, and says whether something is then.
     fn ready<S: Source>(&mut self, source: &mut S) -> Got
         ensures content { IsReady result self.old self.new (S.left source.old) (S.left source.new) }
+        ensures ahead { 0 < length self.old.held → (self.new ≡ self.old) × (source.new ≡ source.old) }
         ensures cause { result ≡ Got.Failed → Rose (S.faults source.old) (S.faults source.new) }
         ensures later { S.faults source.old ≤ S.faults source.new }
     {

@@ -79,6 +79,7 @@ fn lines_of_a_source(rt: HostRuntime) -> Result<(), Fail> {
     let mut lines = Lines::make();
     assert_eq!(rt; lines.next(4, &mut source), NextLine::Line);
     assert_eq!(rt; lines.line(), b"ab".as_slice());
+    assert!(rt; !lines.holds_line());
     assert_eq!(rt; lines.next(4, &mut source), NextLine::Failed);
     assert_eq!(rt; lines.next(4, &mut source), NextLine::Line);
     assert_eq!(rt; lines.line(), b"".as_slice());

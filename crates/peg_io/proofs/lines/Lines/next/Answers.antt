@@ -1,12 +1,20 @@
-use Rattle.std.proofs.Common.{arith}
+use Rattle.std.proofs.Common.{◌<◌, ◌∙◌, length, sym, subst, ap, arith}
+use Rattle.peg_io.specs.Lines.{ReadAhead, HasNoFeed}
 use Rattle.peg_io.proofs.Reading.{IsUnder_ready, IsUnder_more, gives_part, keeps_part, gives_last}
 use Rattle.peg_io.proofs.Reading.{keeps_end, gives_failed, keeps_failed}
+use Rattle.peg_io.proofs.Reading.{feed_is_more, feed_ends_line}
 use Rattle.peg_io.proofs.lines.Lines.next.Goals as goal
 
 pub loop-self-preserved : goal.loop-self-preserved
 loop-self-preserved g c = record {
   under = IsUnder_more (IsUnder_ready c.loop-self.invariant.under c.in-Bytes.ensures.content) c.in_default.ensures;
   later = omega (arith, c.loop-self.invariant.later, c.in-Bytes.ensures.later);
+  ahead = λ feed.
+      let held = c.loop-self.invariant.ahead feed in
+      let more : 0 < length c.loop-self.self.held = rw held.0 (feed_is_more c.args.self.now.held feed) in
+      let same = c.in-Bytes.ensures.ahead more in
+      let here = ap (λ (r : ReadAhead). r.held) same.0 ∙ held.0 in
+      absurd (feed_ends_line c.args.self.now.held (subst HasNoFeed here c.in_default.ensures.part) feed);
 }
 
 pub returns-in-End-clause-content : goal.returns-in-End-clause-content
