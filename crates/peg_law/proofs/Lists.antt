@@ -1,10 +1,12 @@
 -- Lists that grow at their end, an element that is set, and what holds of all elements.
-use Rattle.std.proofs.Common.{◌≡◌, ◌≢◌, ◌⊎◌, inl, inr, ℕ, zero, suc, List, [], ◌∷◌, ◌++◌}
+use Rattle.std.proofs.Common.{◌≡◌, ◌≢◌, ◌⊎◌, inl, inr, ℕ, zero, suc, Bool, true, filter, List, []}
+use Rattle.std.proofs.Common.{◌∷◌, ◌++◌}
 use Rattle.std.proofs.Common.{length, map, Some, None, slice_get, refl, sym, ap, ◌∙◌}
 use Rattle.std.proofs.Common.{subst, arith, append_assoc, append-nil, length-append}
 use Rattle.std.specs.Prelude.{slice_index_or, slice_set, Contains}
 use Rattle.std.specs.List.{AllByRecursion}
-use Rattle.peg_model.specs.Words.{below}
+use Rattle.std.proofs.lemmas.Bool.{cond_both}
+use Rattle.peg_model.specs.Words.{below, sorted, placed}
 
 -- ---- all elements
 
@@ -125,7 +127,7 @@ at_push (z ∷ xs) y (suc i) x e = further (at_push xs y i x e)
     further (inl f) = inl f
     further (inr (at, is)) = inr (ap suc at, is)
 
-length_below : (n : ℕ) → length (below n) ≡ n
+pub length_below : (n : ℕ) → length (below n) ≡ n
 length_below zero = refl
 length_below (suc n) =
     let e = length-append (below n) (n ∷ []) in let f = length_below n in omega (arith, e, f)
@@ -146,3 +148,28 @@ pub map_at :
 map_at f [] i y e = absurd (cc)
 map_at f (x ∷ xs) zero y e = (x, refl, cc)
 map_at f (x ∷ xs) (suc i) y e = map_at f xs i y e
+
+-- ---- what a choice and a sort keep
+
+pub all_chosen :
+    {A : Type 0} (P : A → Type 0) (p : A → Bool) (xs : List A) → AllByRecursion P xs
+    → AllByRecursion (λ x. P x × (p x ≡ true)) (filter p xs)
+all_chosen P p [] all = tt
+all_chosen P p (x ∷ xs) all =
+    cond_both (p x) (x ∷ filter p xs) (filter p xs) (AllByRecursion (λ x. P x × (p x ≡ true)))
+    (λ y. ((all.0, y), all_chosen P p xs all.1)) (λ n. all_chosen P p xs all.1)
+
+all_placed :
+    {A : Type 0} (before : A → A → Bool) (P : A → Type 0) (x : A) (xs : List A) → P x
+    → AllByRecursion P xs → AllByRecursion P (placed before x xs)
+all_placed before P x [] one all = (one, tt)
+all_placed before P x (y ∷ ys) one all =
+    cond_both (before x y) (x ∷ y ∷ ys) (y ∷ placed before x ys) (AllByRecursion P)
+    (λ t. (one, all)) (λ n. (all.0, all_placed before P x ys one all.1))
+
+pub all_sorted :
+    {A : Type 0} (before : A → A → Bool) (P : A → Type 0) (xs : List A) → AllByRecursion P xs
+    → AllByRecursion P (sorted before xs)
+all_sorted before P [] all = tt
+all_sorted before P (x ∷ xs) all =
+    all_placed before P x (sorted before xs) all.0 (all_sorted before P xs all.1)

@@ -2,11 +2,21 @@
 //! or reordered. Each law is a function that does nothing, and its contract is the law.
 #![tactic(auto)]
 
-ghost use Rattle.std.specs.Prelude.{ℕ, List};
+ghost use Rattle.std.specs.Prelude.{ℕ, List, Contains};
+ghost use Rattle.std.specs.List.{AllByRecursion};
 ghost use Rattle.peg_name.specs.Name.{Rack};
 ghost use Rattle.peg_event.specs.declared.Event.{Event};
-ghost use Rattle.peg_model.specs.World.{start};
-ghost use Rattle.peg_model.specs.Moments.{Moment, moments, FullRound, IsAnsweredAt};
+ghost use Rattle.peg_model.specs.World.{start, run};
+ghost use Rattle.peg_model.specs.Schedule.{IsStart};
+ghost use Rattle.peg_model.specs.Headline.{OrdersAreHistories};
+ghost use Rattle.peg_model.specs.Once.{ActsOnce};
+ghost use Rattle.peg_law.specs.Covered.{ReportsAreHeld, KeysAreCovered};
+ghost use Rattle.peg_law.specs.Fenced.{KeysAreFenced};
+ghost use Rattle.peg_law.specs.Agreed.{OneState, OneVoice};
+ghost use Rattle.peg_law.specs.Below.{VersionsAreBelow};
+ghost use Rattle.peg_law.specs.Reached.{ReachesWhatWasAnswered};
+ghost use Rattle.peg_law.specs.Lines.{IsLine};
+ghost use Rattle.peg_model.specs.Moments.{Moment, moments, FullRound, IsAnsweredAt, IsInPlace};
 
 /// For those who build on a rack: a client gets its answer where the network does its part. If a
 /// request of an operation is delivered at an active switch, what the switch sends of it at a
@@ -19,3 +29,132 @@ pub fn answers_full_rounds()
         → FullRound (moments (start rack keys) 2 events) client seq last
         → IsAnsweredAt last client seq }
 {}
+
+/// For those who read a printed order: clients see one plain register for each key. Whatever is
+/// issued, resent, given up, delivered late, twice or never, promoted, demoted, copied, fenced or
+/// handed over, and whatever junk comes between, the printed orders are register histories at every
+/// moment. Nothing is asked of the order, the number or the picks of the events.
+pub fn prints_register_histories()
+    ensures { (rack : Rack) (keys : List (List ℕ)) (events : List Event)
+        → IsStart rack keys → AllByRecursion (IsLine rack) events
+        → OrdersAreHistories (run (start rack keys) 2 events).0 }
+{
+    peg_protocol::prints_register_histories();
+    peg_protocol::tells_what_was_asked();
+    peg_grammar::reads_back_what_is_spelled();
+}
+
+/// For those who resend: a request acts once, however often it is sent and delivered. A version is
+/// of one write; an operation gets a further version only after a void of the one before was sent;
+/// and no answer and no copy carries a version of which a void was sent.
+pub fn acts_once()
+    ensures { (rack : Rack) (keys : List (List ℕ)) (events : List Event)
+        → IsStart rack keys → AllByRecursion (IsLine rack) events
+        → ActsOnce (run (start rack keys) 2 events).0.packets }
+{
+    peg_protocol::keeps_the_law();
+    peg_protocol::tells_what_was_asked();
+    peg_grammar::reads_back_what_is_spelled();
+}
+
+/// For those who watch a rack: a refusal tells of a fault outside it. No line says that a packet is
+/// out of place, and a line says malformed exactly where junk was handed over that no packet
+/// spells.
+pub fn refuses_nothing()
+    ensures { (rack : Rack) (keys : List (List ℕ)) (events : List Event)
+        → IsStart rack keys → AllByRecursion (IsLine rack) events
+        → (m : Moment) → Contains (moments (start rack keys) 2 events) m → IsInPlace m }
+{
+    peg_protocol::tells_what_was_asked();
+    peg_protocol::refuses_nothing();
+    peg_grammar::reads_back_what_is_spelled();
+}
+
+/// For those who change a server: it has at least each version that it ever reported, in a reply or
+/// for a copy.
+pub fn holds_what_it_reports()
+    ensures { (rack : Rack) (keys : List (List ℕ)) (events : List Event)
+        → IsStart rack keys → AllByRecursion (IsLine rack) events
+        → ReportsAreHeld (run (start rack keys) 2 events).0 }
+{
+    peg_protocol::keeps_the_law();
+    peg_protocol::tells_what_was_asked();
+    peg_grammar::reads_back_what_is_spelled();
+}
+
+/// For those who change the directory: one switch holds the current state, and it covers each key.
+/// Of an unlisted key nothing is newer than what its home has. Of a listed key each answer is
+/// completed, each holder has what is completed, what is newer than what its home has is above the
+/// base, and below the mark where it has one.
+pub fn covers_each_key()
+    ensures { (rack : Rack) (keys : List (List ℕ)) (events : List Event)
+        → IsStart rack keys → AllByRecursion (IsLine rack) events
+        → KeysAreCovered (run (start rack keys) 2 events).0 }
+{
+    peg_protocol::keeps_the_law();
+    peg_protocol::tells_what_was_asked();
+    peg_grammar::reads_back_what_is_spelled();
+}
+
+/// For those who fence a key: what a fence passed over is gone. No server holds such a version, and
+/// none is written elsewhere, copied or reported; a version that was voided is one of them. Each
+/// fence that was sent is at most the base of its key while the key is listed.
+pub fn fences_each_key()
+    ensures { (rack : Rack) (keys : List (List ℕ)) (events : List Event)
+        → IsStart rack keys → AllByRecursion (IsLine rack) events
+        → KeysAreFenced (run (start rack keys) 2 events).0 }
+{
+    peg_protocol::keeps_the_law();
+    peg_protocol::tells_what_was_asked();
+    peg_grammar::reads_back_what_is_spelled();
+}
+
+/// For those who change the handover: the parts of one epoch are of one state and went to one
+/// switch, a part of a passed epoch went to a switch that has passed it too, and none is ahead of
+/// the current epoch but those of the switch that is sealed now.
+pub fn hands_over_one_state()
+    ensures { (rack : Rack) (keys : List (List ℕ)) (events : List Event)
+        → IsStart rack keys → AllByRecursion (IsLine rack) events
+        → OneState (run (start rack keys) 2 events).0 }
+{
+    peg_protocol::keeps_the_law();
+    peg_protocol::tells_what_was_asked();
+    peg_grammar::reads_back_what_is_spelled();
+}
+
+/// For those who change the controller: a command number has one command and one outcome, and but
+/// for a pending command the controller and the current switch agree on the last number, and on
+/// which switch is the current one.
+pub fn gives_one_command()
+    ensures { (rack : Rack) (keys : List (List ℕ)) (events : List Event)
+        → IsStart rack keys → AllByRecursion (IsLine rack) events
+        → OneVoice (run (start rack keys) 2 events).0 }
+{
+    peg_protocol::keeps_the_law();
+    peg_protocol::tells_what_was_asked();
+    peg_grammar::reads_back_what_is_spelled();
+}
+
+/// For those who stamp: each version that is held, sent, in a client's row or in an entry is below
+/// the next one, and a mark is at most the next one.
+pub fn keeps_versions_below_next()
+    ensures { (rack : Rack) (keys : List (List ℕ)) (events : List Event)
+        → IsStart rack keys → AllByRecursion (IsLine rack) events
+        → VersionsAreBelow (run (start rack keys) 2 events).0 }
+{
+    peg_protocol::keeps_the_law();
+    peg_protocol::tells_what_was_asked();
+    peg_grammar::reads_back_what_is_spelled();
+}
+
+/// For those who read: a read reaches what was answered before it was issued. The server that it
+/// is sent to has that version, and so has its answer; and a write is stamped above it.
+pub fn reaches_what_was_answered()
+    ensures { (rack : Rack) (keys : List (List ℕ)) (events : List Event)
+        → IsStart rack keys → AllByRecursion (IsLine rack) events
+        → ReachesWhatWasAnswered (run (start rack keys) 2 events).0 }
+{
+    peg_protocol::keeps_the_law();
+    peg_protocol::tells_what_was_asked();
+    peg_grammar::reads_back_what_is_spelled();
+}

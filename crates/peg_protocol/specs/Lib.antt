@@ -1,0 +1,13 @@
+pub mod Core
+pub mod Packet
+pub mod Machine
+pub mod System
+pub mod Register
+pub mod Printed
+pub mod Law
+pub mod Handover
+pub mod ControllerLaw
+pub mod RackLaw
+pub mod Told
+pub mod OutOfPlace
+pub mod FullRound

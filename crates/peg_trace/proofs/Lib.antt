@@ -1,0 +1,5 @@
+pub mod Lists
+pub mod Operations
+pub mod Events
+pub mod Runs
+pub mod Sample
