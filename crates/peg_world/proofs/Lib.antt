@@ -1,0 +1,13 @@
+mod Flights
+mod Keeping
+mod Nodes
+mod Flying
+mod Sends
+mod Knowing
+mod Issuing
+mod Moving
+mod Calls
+mod Handing
+mod Answering
+mod Serving
+mod Switching
