@@ -1,0 +1,39 @@
+//! The program `peg`: its words, its standard input and its standard output, and no wire.
+#![tactic(auto)]
+
+use peg_io::{NoWire, StdSink, StdSource};
+use peg_run::{Status, run};
+use std::alloc::Global;
+use std::env::{self, Env};
+use std::io;
+use std::process::ExitCode;
+
+fn main(rt: HostRuntime) -> ExitCode {
+    let status = match words_given(&rt) {
+        Ok(words) => run(
+            rt.alloc(),
+            words.as_slice(),
+            &mut StdSource::make(rt.stdin()),
+            &mut StdSink::make(io::writer(&rt)),
+            &mut NoWire::make(),
+        ),
+        Err(status) => status,
+    };
+    if status != Status::Done {
+        // Where standard error is closed, the exit status alone says what happened.
+        let _ = eprintln!(rt; "{status}");
+    }
+    ExitCode::from(status.code())
+}
+
+/// The words after the program's name. A word that is no text belongs to no command.
+fn words_given<R: Env + AllocGlobal>(rt: &R) -> Result<Vec<String>, Status> {
+    match env::args(rt) {
+        Ok(words) => words
+            .skip(1)
+            .collect(rt.alloc())
+            .map_err(|_| Status::OutOfMemory),
+        Err(fault) if fault.kind() == io::ErrorKind::OutOfMemory => Err(Status::OutOfMemory),
+        Err(_) => Err(Status::Usage),
+    }
+}

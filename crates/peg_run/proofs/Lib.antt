@@ -1,0 +1,12 @@
+pub mod Passing
+pub mod Tails
+pub mod Runs
+pub mod Fronts
+pub mod Standings
+pub mod Feeds
+pub mod Grows
+pub mod Built
+pub mod Steps
+pub mod Starts
+pub mod Answered
+pub mod Headline

@@ -1,0 +1,5 @@
+pub mod Front
+pub mod Status
+pub mod Ends
+pub mod Pages
+pub mod Standing

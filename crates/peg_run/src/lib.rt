@@ -1,0 +1,167 @@
+//! The top call: it carries out the words of a command over a source, a sink and a wire.
+#![tactic(auto)]
+
+ghost use Rattle.std.specs.Prelude.{◌≡◌, ◌≢◌, ◌⊎◌, ℕ, None, Some};
+ghost use Rattle.peg_model.specs.Trace.{RunText};
+ghost use Rattle.peg_model.specs.Headline.{IsLinearizable};
+ghost use Rattle.peg_io.specs.Outside.{Rose, Tells};
+ghost use Rattle.peg_run.specs.Status.{code_of, status_text};
+ghost use Rattle.peg_run.specs.Front.{IsBuilt};
+ghost use Rattle.peg_run.specs.Ends.{job_in, WhereTold, IsDone, IsBadAt, IsTooMuchAt, IsUnread};
+ghost use Rattle.peg_run.specs.Ends.{IsCut, IsAhead};
+
+use crate::replay::replay_schedule;
+use peg_io::{Sink, Source, Wire};
+use peg_law::prints_register_histories;
+use peg_trace::shows_each_operation;
+use peg_words::{Job, WordFault, read_words};
+use std::alloc::Global;
+use std::fmt;
+
+mod page;
+mod replay;
+#[cfg(test)]
+mod rows;
+mod tail;
+#[cfg(test)]
+mod tests;
+
+/// How a run ended.
+#[derive(Clone, Copy, Debug, PartialEq, Eq)]
+pub enum Status {
+    /// The input was read to the line that ends it, and the whole text is written.
+    Done,
+    /// There was no memory for what was to be kept.
+    OutOfMemory,
+    /// The words are no command.
+    Usage,
+    /// The source failed.
+    ReadFault,
+    /// The sink failed.
+    WriteFault,
+    /// The wire failed to bind or to receive.
+    WireFault,
+    /// This line, from 1, is the first that is missing, too long or outside the grammar.
+    BadInput { line: u64 },
+    /// This line, from 1, is the first past a limit.
+    TooMuch { line: u64 },
+}
+
+impl Status {
+    /// The exit code of the program.
+    pub fn code(&self) -> u8
+        ensures { result ≡ code_of self.now }
+    {
+        match self {
+            Status::Done => 0,
+            Status::OutOfMemory => 1,
+            Status::Usage => 2,
+            Status::ReadFault => 3,
+            Status::WriteFault => 4,
+            Status::WireFault => 5,
+            Status::BadInput { .. } => 6,
+            Status::TooMuch { .. } => 7,
+        }
+    }
+}
+
+/// What the program says of it on standard error: nothing for `Done`.
+impl fmt::Display for Status {
+    ghost output = { λ status. Some (status_text status) };
+
+    fn fmt<W: fmt::Write>(&self, f: &mut fmt::Formatter<W>) -> fmt::Result {
+        match self {
+            Status::Done => Ok(()),
+            Status::OutOfMemory => write!(f, "peg: out of memory"),
+            Status::Usage => write!(f, "peg: usage"),
+            Status::ReadFault => write!(f, "peg: read fault"),
+            Status::WriteFault => write!(f, "peg: write fault"),
+            Status::WireFault => write!(f, "peg: network fault"),
+            Status::BadInput { line } => write!(f, "peg: line {line} is not accepted"),
+            Status::TooMuch { line } => write!(f, "peg: line {line} is past the limit"),
+        }
+    }
+}
+
+/// Carries out the words of a command. So far there is one, `replay`, which reads a schedule line
+/// by line and writes its trace, its history and the order of each key.
+///
+/// Whoever reads an order that it prints holds a register history in the hand: so the clause
+/// `linearizable` says, by the definitions of the register alone.
+///
+/// `Usage` where the words are no command; `BadInput` and `TooMuch` at the first line that is
+/// outside the grammar or past a limit; `ReadFault` and `WriteFault` where the source or the sink
+/// failed; `OutOfMemory` where there was none for what is kept. Before the source is asked for more,
+/// and before each answer, the text of the lines so far is written; at `WriteFault` and
+/// `OutOfMemory` maybe only a first part of it.
+#[tactic(auto, using(crate::proofs::Answered::text_told, crate::proofs::Headline::histories_told, crate::proofs::Headline::cut_unused))]
+pub fn run<S: Source, K: Sink, W: Wire>(
+    alloc: Global,
+    words: &[String],
+    source: &mut S,
+    sink: &mut K,
+    _wire: &mut W,
+) -> Status
+    // Usage is answered only where the words are no command.
+    ensures usage { result ≡ Status.Usage → job_in words.now ≡ None }
+    // Where the words are no command that is the answer, but for want of memory.
+    ensures no_command { job_in words.now ≡ None
+        → (result ≡ Status.Usage) ⊎ (result ≡ Status.OutOfMemory) }
+    // Then nothing is read or written.
+    ensures unused { job_in words.now ≡ None
+        → (source.new ≡ source.old) × (sink.new ≡ sink.old) }
+    // The wire stays as it was.
+    ensures wire { _wire.new ≡ _wire.old }
+    // No fault of the wire is answered.
+    ensures no_wire_fault { result ≢ Status.WireFault }
+    // A fault of the source is answered only where its count rose.
+    ensures read_fault { result ≡ Status.ReadFault
+        → Rose (S.faults source.old) (S.faults source.new) }
+    // A fault of the sink is answered only where its count rose.
+    ensures write_fault { result ≡ Status.WriteFault
+        → Rose (K.faults sink.old) (K.faults sink.new) }
+    // Done: the text of the run of the schedule that the input begins with was appended.
+    ensures text { result ≡ Status.Done
+        → WhereTold (S.left source.old) (S.left source.new) (K.held sink.old) (K.held sink.new)
+        RunText }
+    // Done: clients saw one plain register for each key.
+    ensures linearizable { result ≡ Status.Done
+        → WhereTold (S.left source.old) (S.left source.new) (K.held sink.old) (K.held sink.new)
+        (λ input output. IsLinearizable output) }
+    // Done: the input was read to the line end, and the limits were kept.
+    ensures done { result ≡ Status.Done
+        → IsDone (S.left source.old) (S.left source.new) (K.held sink.old) (K.held sink.new) }
+    // The first line at fault is named, and the text of the lines before it was appended.
+    ensures bad_input { (line : ℕ) → result ≡ Status.BadInput line
+        → IsBadAt line (S.left source.old) (S.left source.new) (K.held sink.old) (K.held sink.new) }
+    // The first line past a limit is named, and the text of the lines before it was appended.
+    ensures too_much { (line : ℕ) → result ≡ Status.TooMuch line
+        → IsTooMuchAt line (S.left source.old) (S.left source.new)
+        (K.held sink.old) (K.held sink.new) }
+    // ReadFault: the text of all whole lines that were read was appended.
+    ensures unread { result ≡ Status.ReadFault
+        → IsUnread (S.left source.old) (S.left source.new) (K.held sink.old) (K.held sink.new) }
+    // WriteFault: a first part of the text was appended.
+    ensures unwritten { result ≡ Status.WriteFault
+        → IsCut (S.left source.old) (S.left source.new) (K.held sink.old) (K.held sink.new) }
+    // OutOfMemory: a first part of the text was appended.
+    ensures no_memory { result ≡ Status.OutOfMemory
+        → IsCut (S.left source.old) (S.left source.new) (K.held sink.old) (K.held sink.new) }
+    // Little more was taken than the lines that the status speaks of.
+    ensures ahead { IsAhead result (S.left source.old) (S.left source.new)
+        (K.held sink.old) (K.held sink.new) }
+    // A schedule within the limits is done, where nothing fails and there is memory.
+    ensures complete { job_in words.now ≡ Some Job.Replay
+        → Tells (S.left source.old) (S.left source.new)
+        (λ input rest. IsBuilt input → (Rose (S.faults source.old) (S.faults source.new) → ⊥)
+        → (Rose (K.faults sink.old) (K.faults sink.new) → ⊥)
+        → (result ≡ Status.Done) ⊎ (result ≡ Status.OutOfMemory)) }
+{
+    prints_register_histories();
+    shows_each_operation();
+    match read_words(alloc, words) {
+        Ok(Job::Replay) => replay_schedule(alloc, source, sink),
+        Err(WordFault::Usage) => Status::Usage,
+        Err(WordFault::OutOfMemory) => Status::OutOfMemory,
+    }
+}
