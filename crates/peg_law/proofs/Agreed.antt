@@ -12,14 +12,17 @@ use Rattle.peg_model.specs.Packet.{Packet, What}
 use Rattle.peg_model.specs.Handover.{parts, part_of}
 use Rattle.peg_model.specs.Controller.{what_of}
 use Rattle.peg_model.specs.Switch as switch
+use Rattle.peg_model.specs.Switch.{state_held}
 use Rattle.peg_model.specs.World.{World, switch_of}
 use Rattle.peg_law.specs.Agreed as agreed
-use Rattle.peg_law.specs.Agreed.{PartWasSent, OneState, OneVoice}
+use Rattle.peg_law.specs.Agreed.{PartWasSent, IsPartOf, OneState, OneVoice}
 use Rattle.peg_law.specs.Codes.{bytes_of, what_code, outcome_code}
 use Rattle.peg_law.specs.Mirrors.{Mirrors, ItemFits, PartFits, part_bytes, mode_code}
+use Rattle.peg_law.specs.Mirrors.{state_told}
 use Rattle.peg_law.proofs.Codes.{bytes_of-number}
 use Rattle.peg_law.proofs.Collecting.{paired_contains}
 use Rattle.peg_law.proofs.Covered.{current_here, plain_there}
+use Rattle.peg_law.proofs.Parts.{told_is}
 use Rattle.peg_protocol.specs.Core as core
 use Rattle.peg_protocol.specs.Packet as law
 use Rattle.peg_protocol.specs.ControllerLaw.{ControllerLaw}
@@ -133,6 +136,22 @@ module _ (keys : List (List ℕ)) (w : World) (s : System) (m : Mirrors keys w s
             q.sent in
             p.fit.1.slice ∙ ap (λ c. part_of (part_bytes w.rack c) index) same.1
             ∙ sym q.fit.1.slice;
+        one_state = λ a epoch index count bytes x.
+            let p = part_there a epoch index count bytes x in (
+              state_told w.rack p.fit.1.state,
+              λ b other count' bytes' y.
+                  let q = part_there b epoch other count' bytes' y in
+                  let same =
+                  h.one_state a b epoch index other count count' p.fit.1.state q.fit.1.state p.sent
+                  q.sent in
+                  subst
+                  (λ c. IsPartOf w.rack.format (state_told w.rack c) other count' bytes')
+                  (sym same.1) (is_part epoch other count' bytes' q.fit.0 q.fit.1),
+            );
+        sealed_state = λ a index count bytes x.
+            let p = part_there a ((switch_of w holder).epoch + 1) index count bytes x in
+            sealed_part index count bytes p.fit.0 p.fit.1
+            (h.new a ((switch_of w holder).epoch + 1) index count p.fit.1.state p.sent);
         old = λ a epoch index count bytes x most.
             let p = part_there a epoch index count bytes x in
             let e = epoch_is holder in
@@ -148,6 +167,31 @@ module _ (keys : List (List ℕ)) (w : World) (s : System) (m : Mirrors keys w s
         );
       }
     where
+      is_part :
+          (epoch index count : ℕ) (bytes : List ℕ) (p : law.Packet)
+          → (f : PartFits w.rack epoch index count bytes p)
+          → IsPartOf w.rack.format (state_told w.rack f.state) index count bytes
+      is_part epoch index count bytes p f = (f.parts, f.among, f.slice)
+
+      held_state : state_told w.rack (s.cores holder) ≡ state_held (switch_of w holder)
+      held_state =
+          told_is w.rack (switch_of w holder).stamps (switch_of w holder).entries
+          (switch_of w holder).last (s.cores holder) (m.switches holder).core_is
+
+      sealed_part :
+          (index count : ℕ) (bytes : List ℕ) (p : law.Packet)
+          → (f : PartFits w.rack ((switch_of w holder).epoch + 1) index count bytes p)
+          → ((switch_of w holder).epoch + 1 ≤ s.epochs holder)
+          ⊎ (handover.IsSealed (s.modes holder)
+          × ((switch_of w holder).epoch + 1 ≡ s.epochs holder + 1) × (f.state ≡ s.cores holder))
+          → IsPartOf w.rack.format (state_held (switch_of w holder)) index count bytes
+      sealed_part index count bytes p f (inl less) =
+          let e = epoch_is holder in absurd (omega (arith, less, e))
+      sealed_part index count bytes p f (inr x) =
+          subst (λ state. IsPartOf w.rack.format state index count bytes)
+          (ap (state_told w.rack) x.2 ∙ held_state)
+          (is_part ((switch_of w holder).epoch + 1) index count bytes p f)
+
       by_new :
           (epoch : ℕ) (c : core.Core)
           → (epoch ≤ s.epochs holder)

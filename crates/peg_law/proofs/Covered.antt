@@ -99,6 +99,31 @@ module _ (keys : List (List ℕ)) (w : World) (s : System) (m : Mirrors keys w s
       subst (λ t. Contains s.sent (law.item t q)) x.2.to
       (subst (λ y. Contains s.sent (law.item x.0.to y)) (is x.0 x.2) x.1)
 
+  -- and so is what a server reported
+  pub reported_there :
+      (c : core.Core) (r : Report) (item : Node × Packet) → Contains w.packets item
+      → report_in item ≡ Some r → Reported (ground s c) r.server (number_of r.key) r.version
+  reported_there c r (to, packet.ReadReply client seq version server named key content) sent e =
+      let same : record { server = server; key = key; version = version } ≡ r = cc in
+      subst (λ (x : Report). Reported (ground s c) x.server (number_of x.key) x.version) same
+      (By_read (node_code to) client seq named (content_code content)
+      (plain_there to (packet.ReadReply client seq version server named key content)
+      (law.ReadReply client seq version server named (number_of key) (content_code content))
+      (λ i f. f.packet) sent))
+  reported_there c r (to, packet.WriteReply client seq version server named key) sent e =
+      let same : record { server = server; key = key; version = version } ≡ r = cc in
+      subst (λ (x : Report). Reported (ground s c) x.server (number_of x.key) x.version) same
+      (By_write (node_code to) client seq named
+      (plain_there to (packet.WriteReply client seq version server named key)
+      (law.WriteReply client seq version server named (number_of key)) (λ i f. f.packet) sent))
+  reported_there c r (to, packet.Held server version key) sent e =
+      let same : record { server = server; key = key; version = version } ≡ r = cc in
+      subst (λ (x : Report). Reported (ground s c) x.server (number_of x.key) x.version) same
+      (By_copy (node_code to)
+      (plain_there to (packet.Held server version key) (law.Held server version (number_of key))
+      (λ i f. f.packet) sent))
+  reported_there c r (to, p) sent e = absurd (cc)
+
   module _ (c : core.Core) (l : Law (ground s c)) where
     elsewhere_there :
         (key : List ℕ) (u : ℕ) → Elsewhere w key u
@@ -118,32 +143,9 @@ module _ (keys : List (List ℕ)) (w : World) (s : System) (m : Mirrors keys w s
         (law.CopyData u to_switch (number_of key) (content_code content)) (λ i f. f.packet) sent)
 
     pub reports_held : ReportsAreHeld w
-    reports_held r (to, packet.ReadReply client seq version server named key content) sent e =
-        let same : record { server = server; key = key; version = version } ≡ r = cc in
-        subst (λ (x : Report). x.version ≤ version_at w x.server x.key) same
-        (subst (λ v. version ≤ v) (version_is server key)
-        (l.reports server (number_of key) version
-        (By_read (node_code to) client seq named (content_code content)
-        (plain_there to (packet.ReadReply client seq version server named key content)
-        (law.ReadReply client seq version server named (number_of key) (content_code content))
-        (λ i f. f.packet) sent))))
-    reports_held r (to, packet.WriteReply client seq version server named key) sent e =
-        let same : record { server = server; key = key; version = version } ≡ r = cc in
-        subst (λ (x : Report). x.version ≤ version_at w x.server x.key) same
-        (subst (λ v. version ≤ v) (version_is server key)
-        (l.reports server (number_of key) version
-        (By_write (node_code to) client seq named
-        (plain_there to (packet.WriteReply client seq version server named key)
-        (law.WriteReply client seq version server named (number_of key)) (λ i f. f.packet) sent))))
-    reports_held r (to, packet.Held server version key) sent e =
-        let same : record { server = server; key = key; version = version } ≡ r = cc in
-        subst (λ (x : Report). x.version ≤ version_at w x.server x.key) same
-        (subst (λ v. version ≤ v) (version_is server key)
-        (l.reports server (number_of key) version
-        (By_copy (node_code to)
-        (plain_there to (packet.Held server version key) (law.Held server version (number_of key))
-        (λ i f. f.packet) sent))))
-    reports_held r (to, p) sent e = absurd (cc)
+    reports_held r item sent e =
+        subst (λ v. r.version ≤ v) (version_is r.server r.key)
+        (l.reports r.server (number_of r.key) r.version (reported_there c r item sent e))
 
     answered_here : (key : List ℕ) → passed (number_of key) s.sent ≡ answered key w.packets
     answered_here key = answered_is key w.rack w.packets s.sent m.sent
@@ -180,6 +182,14 @@ module _ (keys : List (List ℕ)) (w : World) (s : System) (m : Mirrors keys w s
               subst (λ n. (n < mark) ⊎ (n ≤ version_at w (home_at w key) key)) a
               (or_at_home key (passed (number_of key) s.sent < mark) (passed (number_of key) s.sent)
               x.passed);
+          written = λ server client seq version named to_switch content apart sent.
+              x.sent server client seq version to_switch (content_code content)
+              (λ e. apart (e ∙ home_is keys w s m key))
+              (plain_there (node.Server server)
+              (packet.ToServerWrite client seq version named to_switch key content)
+              (law.ToServerWrite client seq version to_switch (number_of key)
+              (content_code content))
+              (λ i f. f.packet) sent);
         }
 
     listed :
@@ -194,6 +204,11 @@ module _ (keys : List (List ℕ)) (w : World) (s : System) (m : Mirrors keys w s
           answered = omega (arith, a, p);
           elsewhere = λ u e.
               or_at_home key (entry.base < u) u (x.elsewhere u (elsewhere_there key u e));
+          reported = λ r item sent e k apart.
+              or_at_home key (entry.base < r.version) r.version
+              (x.reported r.server r.version (λ y. apart (y ∙ home_is keys w s m key))
+              (subst (λ j. Reported (ground s c) r.server (number_of j) r.version) k
+              (reported_there c r item sent e)));
           holders = by_case x.holders;
           mark = marked key entry entry.mark x.mark;
         }

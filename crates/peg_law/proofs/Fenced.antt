@@ -15,20 +15,20 @@ use Rattle.peg_model.specs.Packet.{Packet}
 use Rattle.peg_model.specs.Rules.{entry_of}
 use Rattle.peg_model.specs.World.{World, AppliedFence, switch_of}
 use Rattle.peg_law.specs.Codes.{number_of, content_code, entry_code, node_code, guard_code}
-use Rattle.peg_law.specs.Covered.{version_at, home_at, Report, report_in}
+use Rattle.peg_law.specs.Covered.{version_at, home_at}
 use Rattle.peg_law.specs.Fenced.{stored_at, Between, NothingBetween, HasBase, AtMostBase}
 use Rattle.peg_law.specs.Fenced.{KeyIsFenced, KeysAreFenced}
 use Rattle.peg_law.specs.Mirrors.{Mirrors, fence_code}
 use Rattle.peg_law.proofs.Codes.{number_apart}
 use Rattle.peg_law.proofs.Cores.{entry_is}
-use Rattle.peg_law.proofs.Covered.{version_is, at_home, plain_there, current_here}
+use Rattle.peg_law.proofs.Covered.{version_is, at_home, plain_there, current_here, reported_there}
 use Rattle.peg_law.proofs.Once.{contains_more}
 use Rattle.peg_law.proofs.ServerHanded.{home_is}
 use Rattle.peg_protocol.specs.Core as core
 use Rattle.peg_protocol.specs.Packet as law
 use Rattle.peg_protocol.specs.Machine.{Guard, Applied}
 use Rattle.peg_protocol.specs.Law as law_of
-use Rattle.peg_protocol.specs.Law.{Law, FenceLaw, By_read, By_write, By_copy}
+use Rattle.peg_protocol.specs.Law.{Law, ActsOnce, FenceLaw, Reported}
 use Rattle.peg_protocol.specs.Handover.{HandoverLaw}
 use Rattle.peg_protocol.specs.System.{System, ground}
 
@@ -63,7 +63,7 @@ told (g ∷ fs) x (suc k, less, e) =
     let r = told fs x (k, omega (arith, less), e) in (r.0, contains_more g r.0 fs r.1, r.2)
 
 module _ (keys : List (List ℕ)) (w : World) (s : System) (m : Mirrors keys w s) where
-  fence_there : (f : AppliedFence) → Contains w.fences f → Contains s.fences (fence_code f)
+  pub fence_there : (f : AppliedFence) → Contains w.fences f → Contains s.fences (fence_code f)
   fence_there f c =
       subst (λ l. Contains l (fence_code f)) (reverse-reverse s.fences)
       (reversed (reverse s.fences) (fence_code f)
@@ -79,7 +79,7 @@ module _ (keys : List (List ℕ)) (w : World) (s : System) (m : Mirrors keys w s
       s.guards server (number_of key) ≡ guard_code (stored_at w server key)
   guard_is server key = ((m.servers server).keys key).guard_is
 
-  home_guard :
+  pub home_guard :
       (key : List ℕ)
       → s.guards (s.rack.home (number_of key)) (number_of key)
       ≡ guard_code (stored_at w (home_at w key) key)
@@ -110,58 +110,14 @@ module _ (keys : List (List ℕ)) (w : World) (s : System) (m : Mirrors keys w s
             (law.CopyData u to_switch (number_of key) (content_code content)) (λ i fit. fit.packet)
             sent)
             b;
-        reported = λ r item sent e k b. by_report r item sent e k b;
+        reported = λ r item sent e k b.
+            x.reported r.server r.version
+            (subst (λ j. Reported (ground s c) r.server (number_of j) r.version) k
+            (reported_there keys w s m c r item sent e))
+            b;
       }
-    where
-      by_report :
-          (r : Report) (item : Node × Packet) → Contains w.packets item → report_in item ≡ Some r
-          → r.key ≡ key → Between f r.version → ⊥
-      by_report r (to, packet.ReadReply client seq version server named other content) sent e k b =
-          let same : record { server = server; key = other; version = version } ≡ r = cc in
-          let o : other ≡ key = ap (λ (y : Report). y.key) same ∙ k in
-          let v : version ≡ r.version = ap (λ (y : Report). y.version) same in
-          x.reported server version
-          (By_read (node_code to) client seq named (content_code content)
-          (subst
-          (λ y.
-          Contains s.sent
-          (law.item (node_code to)
-          (law.ReadReply client seq version server named y (content_code content))))
-          (ap number_of o)
-          (plain_there keys w s m to
-          (packet.ReadReply client seq version server named other content)
-          (law.ReadReply client seq version server named (number_of other) (content_code content))
-          (λ i fit. fit.packet) sent)))
-          (subst (Between f) (sym v) b)
-      by_report r (to, packet.WriteReply client seq version server named other) sent e k b =
-          let same : record { server = server; key = other; version = version } ≡ r = cc in
-          let o : other ≡ key = ap (λ (y : Report). y.key) same ∙ k in
-          let v : version ≡ r.version = ap (λ (y : Report). y.version) same in
-          x.reported server version
-          (By_write (node_code to) client seq named
-          (subst
-          (λ y.
-          Contains s.sent
-          (law.item (node_code to) (law.WriteReply client seq version server named y)))
-          (ap number_of o)
-          (plain_there keys w s m to (packet.WriteReply client seq version server named other)
-          (law.WriteReply client seq version server named (number_of other)) (λ i fit. fit.packet)
-          sent)))
-          (subst (Between f) (sym v) b)
-      by_report r (to, packet.Held server version other) sent e k b =
-          let same : record { server = server; key = other; version = version } ≡ r = cc in
-          let o : other ≡ key = ap (λ (y : Report). y.key) same ∙ k in
-          let v : version ≡ r.version = ap (λ (y : Report). y.version) same in
-          x.reported server version
-          (By_copy (node_code to)
-          (subst (λ y. Contains s.sent (law.item (node_code to) (law.Held server version y)))
-          (ap number_of o)
-          (plain_there keys w s m to (packet.Held server version other)
-          (law.Held server version (number_of other)) (λ i fit. fit.packet) sent)))
-          (subst (Between f) (sym v) b)
-      by_report r (to, p) sent e k b = cc
 
-  sent_there :
+  pub sent_there :
       (key : List ℕ) (to : Node) (to_switch server f : ℕ)
       → Contains w.packets (to, packet.Fence to_switch server f key)
       → Contains s.sent (law.item (node_code to) (law.Fence f to_switch (number_of key)))
@@ -231,8 +187,9 @@ module _ (keys : List (List ℕ)) (w : World) (s : System) (m : Mirrors keys w s
       by_most (Some entry) is f x = subst (λ e. law_of.AtMostBase e f) is x
 
   pub fenced_here :
-      (holder : ℕ) → HandoverLaw s holder → Law (ground s (s.cores holder)) → KeysAreFenced w
-  fenced_here holder h l =
+      (holder : ℕ) → HandoverLaw s holder → Law (ground s (s.cores holder))
+      → ActsOnce (ground s (s.cores holder)) → KeysAreFenced w
+  fenced_here holder h l once =
       record {
         holder = holder;
         current = current_here keys w s m holder h;
@@ -241,4 +198,9 @@ module _ (keys : List (List ℕ)) (w : World) (s : System) (m : Mirrors keys w s
             (l.fences (number_of key))
             (ap (core.entry_of (number_of key)) (m.switches holder).core_is.entries_is
             ∙ entry_is key (switch_of w holder).entries);
+        voided = λ to client seq u server to_switch key sent t other e.
+            once.held (node_code to) client seq u server to_switch (number_of key)
+            (plain_there keys w s m to (packet.Void client seq u server to_switch key)
+            (law.Void client seq u server to_switch (number_of key)) (λ i fit. fit.packet) sent)
+            t (number_of other) (version_is keys w s m t other ∙ e);
       }

@@ -37,6 +37,10 @@ pub mod Covered
 pub mod Fenced
 pub mod Agreed
 pub mod Below
+pub mod Logged
+pub mod Given
+pub mod Settled
+pub mod Guarded
 pub mod Reached
 pub mod Said
 pub mod InPlace

@@ -117,7 +117,7 @@ same_belongs number at command.Clear (outcome.NoVersion n) = refl
 
 -- ---- the known keys
 
-any_known :
+pub any_known :
     (key : List ℕ) (known : List (List ℕ))
     → list_any (λ j. j == number_of key) (map number_of known) ≡ is_in key known
 any_known key [] = refl

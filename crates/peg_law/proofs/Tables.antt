@@ -2,7 +2,7 @@
 use Rattle.std.proofs.Common.{◌≡◌, ◌≢◌, ◌<◌, ◌==◌, ℕ, zero, suc, Bool, true, false, List, [], ◌∷◌}
 use Rattle.std.proofs.Common.{◌++◌}
 use Rattle.std.proofs.Common.{length, map, Option, Some, None, slice_get, refl, sym, ap, ◌∙◌, subst}
-use Rattle.std.proofs.Common.{eqb-true}
+use Rattle.std.proofs.Common.{eqb-true, Contains, arith}
 use Rattle.std.proofs.lemmas.Bool.{eqb-false}
 use Rattle.std.proofs.lemmas.List.{get_or-set_same, get_or-set_other}
 use Rattle.std.specs.Prelude.{slice_index_or, slice_set}
@@ -59,6 +59,20 @@ paired_length R [] [] h = refl
 paired_length R [] (y ∷ ys) h = absurd h
 paired_length R (x ∷ xs) [] h = absurd h
 paired_length R (x ∷ xs) (y ∷ ys) h = ap suc (paired_length R xs ys h.1)
+
+-- what the second list has, the first has
+pub paired_back :
+    {A B : Type 0} (R : A → B → Type 0) (xs : List A) (ys : List B) (y : B) → Paired R xs ys
+    → Contains ys y → (x : A) × Contains xs x × R x y
+paired_back R [] [] y h (k, less, e) = absurd (omega (arith, less))
+paired_back R [] (z ∷ ys) y h c = absurd h
+paired_back R (x ∷ xs) [] y h c = absurd h
+paired_back R (x ∷ xs) (z ∷ ys) y h (zero, less, e) =
+    (x, (0, omega arith, refl), subst (R x) e h.0)
+paired_back R (x ∷ xs) (z ∷ ys) y h (suc k, less, e) =
+    let r = paired_back R xs ys y h.1 (k, omega (arith, less), e) in
+    let c = r.1 in
+    let l = c.1 in (r.0, (suc c.0, omega (arith, l), c.2), r.2)
 
 -- of a table of nodes one changes: what is asked of each, by the test of its number
 pub one_changed :

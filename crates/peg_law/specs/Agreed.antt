@@ -3,13 +3,15 @@
 --         should be
 --     OneVoice w      a command number has one command and one outcome, and the controller knows
 --         where the current state is
-use Rattle.std.specs.Prelude.{◌≡◌, ◌≤◌, ◌+◌, ◌⊎◌, ℕ, List, Some, IsSome, Contains}
-use Rattle.std.specs.Prelude.{slice_get}
+use Rattle.std.specs.Prelude.{◌≡◌, ◌≤◌, ◌<◌, ◌+◌, ◌⊎◌, ℕ, List, Some, IsSome, Contains}
+use Rattle.std.specs.Prelude.{slice_get, length}
+use Rattle.peg_name.specs.declared.Format.{Format}
 use Rattle.peg_name.specs.declared.Node.TheVariants as node
 use Rattle.peg_event.specs.declared.Command.TheVariants.{Handover}
 use Rattle.peg_event.specs.declared.Outcome.{Outcome}
 use Rattle.peg_model.specs.Packet.{What, Part, Command, CommandAck}
-use Rattle.peg_model.specs.Switch.{Mode, Idle, Active, Sealed}
+use Rattle.peg_model.specs.Handover.{State, state_bytes, parts, part_of}
+use Rattle.peg_model.specs.Switch.{Mode, Idle, Active, Sealed, state_held}
 use Rattle.peg_model.specs.World.{World, switch_of}
 use Rattle.peg_law.specs.Covered.{IsCurrent}
 
@@ -22,10 +24,16 @@ IsSealed Idle = ⊥
 IsSealed Active = ⊥
 IsSealed (Sealed target) = Unit {0}
 
+-- a part of the state's bytes, with the count of their parts
+abbrev pub IsPartOf : Format → State → ℕ → ℕ → List ℕ → Type 0
+IsPartOf format state index count bytes =
+    (count ≡ length (parts (state_bytes format state))) × (index < count)
+    × (bytes ≡ part_of (state_bytes format state) index)
+
 pub record OneState (w : World) : Type 0 where
   pub holder : ℕ
   pub current : IsCurrent w holder
-  -- one target and one count for each epoch, and one slice for each index
+  -- one target and one count for each epoch, one slice for each index, and one state for all
   pub one_target :
       (a b epoch index other count count' : ℕ) (bytes bytes' : List ℕ)
       → PartWasSent w a epoch index count bytes → PartWasSent w b epoch other count' bytes'
@@ -34,6 +42,16 @@ pub record OneState (w : World) : Type 0 where
       (a b epoch index count count' : ℕ) (bytes bytes' : List ℕ)
       → PartWasSent w a epoch index count bytes → PartWasSent w b epoch index count' bytes'
       → bytes ≡ bytes'
+  pub one_state :
+      (a epoch index count : ℕ) (bytes : List ℕ) → PartWasSent w a epoch index count bytes
+      → (state : State)
+      × ((b other count' : ℕ) (bytes' : List ℕ) → PartWasSent w b epoch other count' bytes'
+      → IsPartOf w.rack.format state other count' bytes')
+  -- that of the next epoch is the current one
+  pub sealed_state :
+      (a index count : ℕ) (bytes : List ℕ)
+      → PartWasSent w a ((switch_of w holder).epoch + 1) index count bytes
+      → IsPartOf w.rack.format (state_held (switch_of w holder)) index count bytes
   pub old :
       (a epoch index count : ℕ) (bytes : List ℕ) → PartWasSent w a epoch index count bytes
       → epoch ≤ (switch_of w holder).epoch → epoch ≤ (switch_of w a).epoch

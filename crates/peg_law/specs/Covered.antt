@@ -96,6 +96,12 @@ pub record IsMarked (w : World) (key : List ℕ) (base mark : ℕ) : Type 0 wher
   pub answered :
       (answered key w.packets < mark)
       ⊎ (answered key w.packets ≤ version_at w (home_at w key) key)
+  -- and no other server was sent a write that isn't
+  pub written :
+      (server client seq version named switch : ℕ) (content : Content) → server ≢ home_at w key
+      → Contains w.packets
+      (node.Server server, ToServerWrite client seq version named switch key content)
+      → version < mark
 
 abbrev pub HasMark : World → List ℕ → ℕ → Option ℕ → Type 0
 HasMark w key base None = Unit {0}
@@ -109,6 +115,11 @@ pub record ListedKey (w : World) (key : List ℕ) (entry : Listing) : Type 0 whe
   pub elsewhere :
       (u : ℕ) → Elsewhere w key u
       → (entry.base < u) ⊎ (u ≤ version_at w (home_at w key) key)
+  -- so is what another server reported
+  pub reported :
+      (r : Report) (item : Node × Packet) → Contains w.packets item → report_in item ≡ Some r
+      → r.key ≡ key → r.server ≢ home_at w key
+      → (entry.base < r.version) ⊎ (r.version ≤ version_at w (home_at w key) key)
   pub holders :
       ((s : ℕ) → Contains entry.holders s → entry.completed ≤ version_at w s key)
       ⊎ AtHome w key entry

@@ -69,3 +69,8 @@ pub record KeysAreFenced (w : World) : Type 0 where
   pub holder : ℕ
   pub current : IsCurrent w holder
   pub keys : (key : List ℕ) → KeyIsFenced w key (entry_of (switch_of w holder).entries key)
+  -- a version that was voided is held nowhere
+  pub voided :
+      (to : Node) (client seq u server switch : ℕ) (key : List ℕ)
+      → Contains w.packets (to, Void client seq u server switch key)
+      → (s : ℕ) (other : List ℕ) → version_at w s other ≢ u

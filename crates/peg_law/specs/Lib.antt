@@ -5,4 +5,7 @@ pub mod Covered
 pub mod Fenced
 pub mod Agreed
 pub mod Below
+pub mod Given
+pub mod Settled
+pub mod Guarded
 pub mod Reached

@@ -12,8 +12,11 @@ ghost use Rattle.peg_model.specs.Headline.{OrdersAreHistories};
 ghost use Rattle.peg_model.specs.Once.{ActsOnce};
 ghost use Rattle.peg_law.specs.Covered.{ReportsAreHeld, KeysAreCovered};
 ghost use Rattle.peg_law.specs.Fenced.{KeysAreFenced};
+ghost use Rattle.peg_law.specs.Guarded.{KeysAreGuarded};
 ghost use Rattle.peg_law.specs.Agreed.{OneState, OneVoice};
 ghost use Rattle.peg_law.specs.Below.{VersionsAreBelow};
+ghost use Rattle.peg_law.specs.Given.{VersionsAreGiven};
+ghost use Rattle.peg_law.specs.Settled.{CommandsSettle};
 ghost use Rattle.peg_law.specs.Reached.{ReachesWhatWasAnswered};
 ghost use Rattle.peg_law.specs.Lines.{IsLine};
 ghost use Rattle.peg_model.specs.Moments.{Moment, moments, FullRound, IsAnsweredAt, IsInPlace};
@@ -84,8 +87,9 @@ pub fn holds_what_it_reports()
 
 /// For those who change the directory: one switch holds the current state, and it covers each key.
 /// Of an unlisted key nothing is newer than what its home has. Of a listed key each answer is
-/// completed, each holder has what is completed, what is newer than what its home has is above the
-/// base, and below the mark where it has one.
+/// completed, each holder has what is completed, and what is held elsewhere or reported from there
+/// and is newer than what its home has is above the base. Where it has a mark, that is below the
+/// mark, and no other server was sent a write at or above it.
 pub fn covers_each_key()
     ensures { (rack : Rack) (keys : List (List ℕ)) (events : List Event)
         → IsStart rack keys → AllByRecursion (IsLine rack) events
@@ -97,8 +101,9 @@ pub fn covers_each_key()
 }
 
 /// For those who fence a key: what a fence passed over is gone. No server holds such a version, and
-/// none is written elsewhere, copied or reported; a version that was voided is one of them. Each
-/// fence that was sent is at most the base of its key while the key is listed.
+/// none is written elsewhere, copied or reported; a version that was voided is one of them, and no
+/// server holds it for any key. Each fence that was sent is at most the base of its key while the
+/// key is listed.
 pub fn fences_each_key()
     ensures { (rack : Rack) (keys : List (List ℕ)) (events : List Event)
         → IsStart rack keys → AllByRecursion (IsLine rack) events
@@ -109,9 +114,22 @@ pub fn fences_each_key()
     peg_grammar::reads_back_what_is_spelled();
 }
 
+/// For those who change what a fence leaves: the home of a key keeps of its last fence the version
+/// and what it held before it, and the version of the fence before that, each 0 where there was
+/// none. No fence that was sent has a version that one of them passed over.
+pub fn keeps_the_last_fences()
+    ensures { (rack : Rack) (keys : List (List ℕ)) (events : List Event)
+        → IsStart rack keys → AllByRecursion (IsLine rack) events
+        → KeysAreGuarded (run (start rack keys) 2 events).0 }
+{
+    peg_protocol::keeps_the_law();
+    peg_protocol::tells_what_was_asked();
+    peg_grammar::reads_back_what_is_spelled();
+}
+
 /// For those who change the handover: the parts of one epoch are of one state and went to one
 /// switch, a part of a passed epoch went to a switch that has passed it too, and none is ahead of
-/// the current epoch but those of the switch that is sealed now.
+/// the current epoch but those of the switch that is sealed now, which are of the current state.
 pub fn hands_over_one_state()
     ensures { (rack : Rack) (keys : List (List ℕ)) (events : List Event)
         → IsStart rack keys → AllByRecursion (IsLine rack) events
@@ -135,12 +153,40 @@ pub fn gives_one_command()
     peg_grammar::reads_back_what_is_spelled();
 }
 
+/// For those who command: what is acknowledged can belong to its command, and the controller knows
+/// exactly the listed keys without a mark, but for the one that the pending command is about. Where
+/// the current state is sealed, that handover is pending. The pending command is acknowledged as
+/// activated only where its target holds the current state.
+pub fn settles_each_command()
+    ensures { (rack : Rack) (keys : List (List ℕ)) (events : List Event)
+        → IsStart rack keys → AllByRecursion (IsLine rack) events
+        → CommandsSettle (run (start rack keys) 2 events).0 }
+{
+    peg_protocol::keeps_the_law();
+    peg_protocol::tells_what_was_asked();
+    peg_grammar::reads_back_what_is_spelled();
+}
+
 /// For those who stamp: each version that is held, sent, in a client's row or in an entry is below
 /// the next one, and a mark is at most the next one.
 pub fn keeps_versions_below_next()
     ensures { (rack : Rack) (keys : List (List ℕ)) (events : List Event)
         → IsStart rack keys → AllByRecursion (IsLine rack) events
         → VersionsAreBelow (run (start rack keys) 2 events).0 }
+{
+    peg_protocol::keeps_the_law();
+    peg_protocol::tells_what_was_asked();
+    peg_grammar::reads_back_what_is_spelled();
+}
+
+/// For those who stamp: each version from the first on was given to one write or to one promotion.
+/// A pair that is held, answered, written or copied is of the key and the content of the write that
+/// its version goes back to, and absent where that is 0. The row of a client is that of its last
+/// stamp, with 0 for the version only where that version was voided.
+pub fn gives_each_version_once()
+    ensures { (rack : Rack) (keys : List (List ℕ)) (events : List Event)
+        → IsStart rack keys → AllByRecursion (IsLine rack) events
+        → VersionsAreGiven (run (start rack keys) 2 events).0 }
 {
     peg_protocol::keeps_the_law();
     peg_protocol::tells_what_was_asked();

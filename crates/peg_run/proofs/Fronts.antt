@@ -4,6 +4,7 @@ use Rattle.std.proofs.Common.{length, refl, sym, ap, ◌∙◌, subst, arith, co
 use Rattle.std.proofs.Common.{false}
 use Rattle.std.proofs.Common.{Bool, ◌==◌, if◌then◌else◌, append_assoc}
 use Rattle.std.proofs.lemmas.Bool.Decides.{nat_tests}
+use Rattle.std.specs.List.{AllByRecursion}
 use Rattle.peg_name.specs.Name.{Rack, line_most}
 use Rattle.peg_event.specs.declared.Event.{Event}
 use Rattle.peg_model.specs.Schedule.{Schedule, EventsThenEnd, fed}
@@ -12,6 +13,12 @@ use Rattle.peg_run.specs.Front.{Lines, AreLinesOf, IsRead, IsEventSoFar}
 use Rattle.peg_run.specs.Standing.{IsOnlyEvent, IsForced}
 
 -- ---- one line more
+
+pub all_more :
+    (P : Event → Type 0) (events : List Event) (e : Event) → AllByRecursion P events → P e
+    → AllByRecursion P (events ++ e ∷ [])
+all_more P [] e all is = (is, tt)
+all_more P (d ∷ events) e all is = (all.0, all_more P events e all.1 is)
 
 pub lines_more :
     (P : List ℕ → Event → Type 0) (limit : ℕ) (events : List Event) (e : Event)

@@ -158,6 +158,8 @@ module _ (left left' held h1 : Option (List ℕ)) (events : List Event) (s : Rep
           world = stands.at.world;
           place = stands.at.place;
           within = stands.at.within;
+          begins = stands.at.begins;
+          lines = stands.at.lines;
         };
         read = stands.read;
         written =
@@ -218,6 +220,8 @@ module _ (left left' held h1 : Option (List ℕ)) (events : List Event) (s : Rep
             world = stands.at.world;
             place = stands.at.place;
             within = stands.at.within;
+            begins = stands.at.begins;
+            lines = stands.at.lines;
           };
           short = keeps.fits;
           read = read;
@@ -255,6 +259,8 @@ module _ (left left' held h1 : Option (List ℕ)) (events : List Event) (s : Rep
             world = stands.at.world;
             place = stands.at.place;
             within = stands.at.within;
+            begins = stands.at.begins;
+            lines = stands.at.lines;
           };
           read =
               Tells_more left left' l2
@@ -291,6 +297,8 @@ module _ (left left' held h1 : Option (List ℕ)) (events : List Event) (s : Rep
             world = stands.at.world;
             place = stands.at.place;
             within = stands.at.within;
+            begins = stands.at.begins;
+            lines = stands.at.lines;
           };
           read =
               Tells_more left left' l2
@@ -328,6 +336,8 @@ module _ (left left' held h1 : Option (List ℕ)) (events : List Event) (s : Rep
             world = stands.at.world;
             place = stands.at.place;
             within = stands.at.within;
+            begins = stands.at.begins;
+            lines = stands.at.lines;
           };
           read =
               Tells_more left left' l2

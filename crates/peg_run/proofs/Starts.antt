@@ -136,7 +136,14 @@ module _ (rack : Rack) (keys : List (List ℕ)) (left left' held : Option (List 
 
   begun_at : IsAt [] begun
   unfolding run
-  begun_at = record { world = refl; place = refl; within = (omega arith, omega arith) }
+  begun_at =
+      record {
+        world = refl;
+        place = refl;
+        within = (omega arith, omega arith);
+        begins = record { limits = took.is.is.is.limits; named = took.is.is.is.named };
+        lines = tt;
+      }
 
   begun_written : Tells held held (Moves (text_of (Lines rack keys [])) [] begun.page)
   unfolding run

@@ -13,6 +13,7 @@ use Rattle.peg_model.specs.World.{World, step, history}
 use Rattle.peg_model.specs.Order.{orders}
 use Rattle.peg_model.specs.Schedule.{fed}
 use Rattle.peg_model.specs.Trace.{line_text}
+use Rattle.peg_law.specs.Lines.{IsLine}
 use Rattle.peg_io.specs.Outside.{Tells, Appends}
 use Rattle.peg_io.specs.Lines.{line_of, past_line, HasNoFeed}
 use Rattle.peg_world.specs.Running.{Running, stepped, is_past}
@@ -29,7 +30,7 @@ use Rattle.peg_run.specs.declared.replay.Replay.{Replay}
 use Rattle.peg_run.proofs.Passing.{Tells_as}
 use Rattle.peg_run.proofs.Runs.{ran_more, length_more, reached_more, line_after, text_more}
 use Rattle.peg_run.proofs.Runs.{whole_text}
-use Rattle.peg_run.proofs.Fronts.{forced_is_read, forced_more}
+use Rattle.peg_run.proofs.Fronts.{all_more, forced_is_read, forced_more}
 use Rattle.peg_run.proofs.Built.{past_not_built, refused_not_built}
 use Rattle.peg_run.proofs.Standings.{page_written, page_cut, page_more, page_more_cut, near_later}
 use Rattle.peg_run.proofs.Standings.{part_grows, moves_grow, all_written}
@@ -186,6 +187,8 @@ module _ (left left' held h1 : Option (List ℕ)) (events : List Event) (s : Rep
         rack = s.rack.0;
         keys = s.rack.1;
         events = events;
+        begins = took.at.begins;
+        lines = took.at.lines;
         within = took.at.within;
         read = read_end;
         written =
@@ -297,6 +300,10 @@ module _ (left left' held h1 : Option (List ℕ)) (events : List Event) (s : Rep
               ∙ reached_more s.rack.0 s.rack.1 events e;
           place = omega (arith, place_is, length_more events e);
           within = within_more s.rack.0 s.rack.1 events e few_at;
+          begins = took.at.begins;
+          lines =
+              all_more (IsLine s.rack.0) events e took.at.lines
+              (only.is.is.in_rack, only.is.is.in_range);
         }
 
     pub step_stands :

@@ -3,6 +3,7 @@
 --     job_in words      the job that the words call for
 --     WhereTold ..      what holds of the input, what is left of it and the output, where both are
 --         told
+--     ShowsRegisters      what was appended shows one plain register for each key
 --     IsDone, IsBadAt, IsTooMuchAt, IsUnread, IsCut      the ends
 --     IsNear, IsNearLine, IsNearBad, IsAhead      how far the bytes that were taken go
 --     Ended status      all that holds at this status, and that a schedule within the limits
@@ -10,10 +11,14 @@
 use Rattle.std.specs.Prelude.{◌≡◌, ◌≤◌, ◌<◌, ◌+◌, ℕ, Bool, true, Option, Some, List, []}
 use Rattle.std.specs.Prelude.{◌∷◌, ◌++◌, length, drop, map, if◌then◌else◌, codes, String}
 use Rattle.std.specs.Prelude.{string_bytes}
+use Rattle.std.specs.List.{AllByRecursion}
 use Rattle.std.specs.declared.alloc.Global.{Global}
 use Rattle.peg_name.specs.Name.{Rack, line_most}
 use Rattle.peg_event.specs.declared.Event.{Event}
+use Rattle.peg_model.specs.Schedule.{IsStart}
 use Rattle.peg_model.specs.Trace.{replay_text}
+use Rattle.peg_model.specs.Headline.{IsLinearizable}
+use Rattle.peg_law.specs.Lines.{IsLine}
 use Rattle.peg_io.specs.Outside.{Tells, Appends}
 use Rattle.peg_io.specs.Lines.{line_of, past_line, HasNoFeed}
 use Rattle.peg_run.specs.Front.{Front, Lines, text_of, whole_of, count_of, limit_of, IsWithin}
@@ -33,6 +38,11 @@ WhereTold (Some input) (Some rest) (Some before) (Some after) P =
     (output : List ℕ) × (after ≡ before ++ output) × P input output
 WhereTold _ _ _ _ P = Unit {0}
 
+-- what was appended is linearizable, whatever the source told
+abbrev pub ShowsRegisters : List ℕ → List ℕ → Type 0
+ShowsRegisters before now =
+    (output : List ℕ) × (now ≡ before ++ output) × IsLinearizable output
+
 -- some first part of the text was appended
 abbrev pub AppendsPart : List ℕ → List ℕ → List ℕ → Type 0
 AppendsPart text before now =
@@ -48,11 +58,14 @@ IsNear bytes rest = (ahead : List ℕ) × (bytes ≡ ahead ++ rest) × (length a
 
 -- ---- the ends
 
--- the input was read to the line end, and the whole text was appended
+-- the input was read to the line end, and the whole text was appended. The rack, its keys and the
+-- events are such as lines spell, also where the source doesn't tell its bytes
 pub record IsDone (left left' held held' : Option (List ℕ)) : Type 0 where
   pub rack : Rack
   pub keys : List (List ℕ)
   pub events : List Event
+  pub begins : IsStart rack keys
+  pub lines : AllByRecursion (IsLine rack) events
   pub within : IsWithin (Lines rack keys events)
   pub read : Tells left left'
       (λ input rest. (tail : List ℕ) × IsRead (Lines rack keys events) input tail

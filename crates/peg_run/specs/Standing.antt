@@ -2,7 +2,7 @@
 -- when the call began, and `left'` and `held'` what they tell now.
 --     reached rack keys events      the world after these events
 --     IsForced      the input begins with these lines, and no other line is spelled there
---     IsAt events s      the events are those that the replay stepped
+--     IsAt events s      the events are those that the replay stepped, all such as lines spell
 --     IsTied s      what else holds of its parts
 --     Stands      between two lines
 --     Takes, Steps      when the next line was read, and when it was stepped
@@ -11,9 +11,11 @@
 use Rattle.std.specs.Prelude.{◌≡◌, ◌≢◌, ◌⊎◌, ◌≤◌, ◌<◌, ◌+◌, ℕ, true, false, Option, Some, None}
 use Rattle.std.specs.Prelude.{List, []}
 use Rattle.std.specs.Prelude.{◌++◌, length, drop, codes}
+use Rattle.std.specs.List.{AllByRecursion}
 use Rattle.peg_name.specs.Name.{Rack, line_most}
 use Rattle.peg_event.specs.declared.Event.{Event}
-use Rattle.peg_model.specs.Schedule.{IsRackLine, IsEventLine, EventInRack}
+use Rattle.peg_model.specs.Schedule.{IsRackLine, IsEventLine, IsStart, EventInRack}
+use Rattle.peg_law.specs.Lines.{IsLine}
 use Rattle.peg_io.specs.Outside.{Tells, Appends, Rose}
 use Rattle.peg_io.specs.Lines.{ReadAhead, line_of, past_line, HasNoFeed}
 use Rattle.peg_world.specs.Running.{Running, is_event_so_far}
@@ -57,6 +59,8 @@ pub record IsAt (events : List Event) (s : Replay) : Type 0 where
   pub world : s.world ≡ reached s.rack.0 s.rack.1 events
   pub place : s.place ≡ length events + 1
   pub within : IsWithin (front_of events s)
+  pub begins : IsStart s.rack.0 s.rack.1
+  pub lines : AllByRecursion (IsLine s.rack.0) events
 
 pub record IsTied (s : Replay) : Type 0 where
   pub rack : s.world.world.rack ≡ s.rack.0

@@ -3,12 +3,11 @@
 
 ghost use Rattle.std.specs.Prelude.{◌≡◌, ◌≢◌, ◌⊎◌, ℕ, None, Some};
 ghost use Rattle.peg_model.specs.Trace.{RunText};
-ghost use Rattle.peg_model.specs.Headline.{IsLinearizable};
 ghost use Rattle.peg_io.specs.Outside.{Rose, Tells};
 ghost use Rattle.peg_run.specs.Status.{code_of, status_text};
 ghost use Rattle.peg_run.specs.Front.{IsBuilt};
 ghost use Rattle.peg_run.specs.Ends.{job_in, WhereTold, IsDone, IsBadAt, IsTooMuchAt, IsUnread};
-ghost use Rattle.peg_run.specs.Ends.{IsCut, IsAhead};
+ghost use Rattle.peg_run.specs.Ends.{IsCut, IsAhead, ShowsRegisters};
 
 use crate::replay::replay_schedule;
 use peg_io::{Sink, Source, Wire};
@@ -87,14 +86,15 @@ impl fmt::Display for Status {
 /// by line and writes its trace, its history and the order of each key.
 ///
 /// Whoever reads an order that it prints holds a register history in the hand: so the clause
-/// `linearizable` says, by the definitions of the register alone.
+/// `linearizable` says, by the definitions of the register alone. It asks of the sink that it tells
+/// what it holds, and of the source nothing.
 ///
 /// `Usage` where the words are no command; `BadInput` and `TooMuch` at the first line that is
 /// outside the grammar or past a limit; `ReadFault` and `WriteFault` where the source or the sink
-/// failed; `OutOfMemory` where there was none for what is kept. Before the source is asked for more,
-/// and before each answer, the text of the lines so far is written; at `WriteFault` and
+/// failed; `OutOfMemory` where there was none for what is kept. Before the source is asked for
+/// more, and before each answer, the text of the lines so far is written; at `WriteFault` and
 /// `OutOfMemory` maybe only a first part of it.
-#[tactic(auto, using(crate::proofs::Answered::text_told, crate::proofs::Headline::histories_told, crate::proofs::Headline::cut_unused))]
+#[tactic(auto, using(crate::proofs::Answered::text_told, crate::proofs::Headline::histories_told))]
 pub fn run<S: Source, K: Sink, W: Wire>(
     alloc: Global,
     words: &[String],
@@ -124,10 +124,9 @@ pub fn run<S: Source, K: Sink, W: Wire>(
     ensures text { result ≡ Status.Done
         → WhereTold (S.left source.old) (S.left source.new) (K.held sink.old) (K.held sink.new)
         RunText }
-    // Done: clients saw one plain register for each key.
+    // Done: clients saw one plain register for each key, whatever the source tells.
     ensures linearizable { result ≡ Status.Done
-        → WhereTold (S.left source.old) (S.left source.new) (K.held sink.old) (K.held sink.new)
-        (λ input output. IsLinearizable output) }
+        → Tells (K.held sink.old) (K.held sink.new) ShowsRegisters }
     // Done: the input was read to the line end, and the limits were kept.
     ensures done { result ≡ Status.Done
         → IsDone (S.left source.old) (S.left source.new) (K.held sink.old) (K.held sink.new) }

@@ -15,3 +15,4 @@ returns c = λ rack keys events is lines.
     let s = system.run x.0 (system.start coded) in
     let law = c.keeps_the_law.ensures coded x.0 first in
     fenced_here keys (run (start rack keys) 2 events).0 s x.1 law.holder law.handover law.law
+    law.acts_once

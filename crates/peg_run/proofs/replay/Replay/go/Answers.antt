@@ -21,6 +21,13 @@ loop-event-preserved g c = record {
   );
 }
 
+pub returns-in-End-clause-ended : goal.returns-in-End-clause-ended
+returns-in-End-clause-ended g c =
+    λ left held events stands.
+    let before = c.loop-event.invariant.stands left held events stands in
+    let took = c.in-End.ensures.takes left held before.0 before.1 in
+    c.end.ensures.ended left (g.S.Source.left c.next_line.new.source) held before.0 took.0 took.1
+
 pub returns-in-Refused-clause-ended : goal.returns-in-Refused-clause-ended
 returns-in-Refused-clause-ended g c =
     λ left held events stands.
