@@ -1,6 +1,7 @@
 -- What every directory keeps, after each change.
 use Rattle.std.proofs.Common.{◌≡◌, ◌<◌, ◌≤◌, ◌+◌, ◌^◌, ℕ, suc, Bool, true, false, not, ◌&&◌, ◌||◌}
-use Rattle.std.proofs.Common.{if◌then◌else◌, List, [], ◌∷◌, ◌++◌, length, All, slice_set, remove, nat_lt, nat_le, ◌==◌}
+use Rattle.std.proofs.Common.{if◌then◌else◌, List, [], ◌∷◌, ◌++◌, length, All, slice_set, remove}
+use Rattle.std.proofs.Common.{nat_lt, nat_le, ◌==◌}
 use Rattle.std.proofs.Common.{Some, None, refl, sym, ap, subst, ◌∙◌, arith}
 use Rattle.std.proofs.lemmas.Bool.Decides.{nat_tests}
 use Rattle.std.proofs.lemmas.List.Sums.{AllPass-from_list_all}
@@ -16,7 +17,8 @@ use Rattle.peg_event.specs.declared.Listing.{Listing}
 use Rattle.peg_model.specs.Words.{is_in}
 use Rattle.peg_model.specs.Packet.{are_distinct, is_number, is_key}
 use Rattle.peg_model.specs.Handover.{is_entry, is_mark}
-use Rattle.peg_model.specs.Rules.{Directory, entry_of, new_listing, reported, is_held_by, held_also_by}
+use Rattle.peg_model.specs.Rules.{Directory, entry_of, new_listing, reported, is_held_by}
+use Rattle.peg_model.specs.Rules.{held_also_by}
 use Rattle.peg_name.specs.declared.Note.{Note}
 use Rattle.peg_name.specs.declared.Note.TheVariants.{Kept, Raised, Added}
 use Rattle.peg_directory.specs.Table.{IsDirectory, IsAt}

@@ -26,13 +26,7 @@ split :
     → drop i es ≡ e ∷ drop (i + 1) es
 split es i e lt is = drop_more es i e lt ∙ ap (λ x. x ∷ drop (i + 1) es) (sym is)
 
-shifted :
-    (i : ℕ) (o : Option ℕ)
-    → option_map (λ n. i + n) (option_map suc o) ≡ option_map (λ n. i + 1 + n) o
-shifted i None = refl
-shifted i (Some n) = let e : i + suc n ≡ i + 1 + n = omega arith in ap Some e
-
-pub found_here :
+found_here :
     (key : List ℕ) (es : Directory) (i : ℕ) (e : List ℕ × Listing) → i < length es
     → e ≡ get_or es i e → bytes_eq key e.0 ≡ true → place_of key es ≡ place_from key i es
     → place_of key es ≡ Some i
@@ -46,28 +40,11 @@ found_here key es i e lt is test so_far =
     test
     ∙ ap Some n
 
-pub not_here :
-    (key : List ℕ) (es : Directory) (i : ℕ) (e : List ℕ × Listing) → i < length es
-    → e ≡ get_or es i e → bytes_eq key e.0 ≡ false → place_of key es ≡ place_from key i es
-    → place_of key es ≡ place_from key (i + 1) es
-not_here key es i e lt is test so_far =
-    so_far
-    ∙ ap (λ rest. option_map (λ n. i + n) (place_of key rest)) (split es i e lt is)
-    ∙ ap
-    (λ b. option_map (λ n. i + n)
-    (if b then Some 0 else option_map suc (place_of key (drop (i + 1) es))))
-    test
-    ∙ shifted i (place_of key (drop (i + 1) es))
-
-pub nowhere :
+nowhere :
     (key : List ℕ) (es : Directory) (i : ℕ) → length es ≤ i
     → place_of key es ≡ place_from key i es → place_of key es ≡ None
 nowhere key es i past so_far =
     so_far ∙ ap (λ rest. option_map (λ n. i + n) (place_of key rest)) (drop_all i es past)
-
-pub from_zero : (o : Option ℕ) → o ≡ option_map (λ n. 0 + n) o
-from_zero None = refl
-from_zero (Some n) = let e : n ≡ 0 + n = omega arith in ap Some e
 
 -- ---- what is at the place
 
@@ -118,7 +95,7 @@ at_by key x xs e false test zero p is rest = absurd (never_zero (place_of key xs
 at_by key x xs e false test (suc i) p is rest =
     at_later key x xs i e.1 test (rest i (less_one (place_of key xs) i p) is)
 
-pub at_place :
+at_place :
     (key : List ℕ) (es : Directory) (i : ℕ) (e : List ℕ × Listing) → place_of key es ≡ Some i
     → e ≡ get_or es i e → IsAt key es i e.1
 at_place key [] i e p is = absurd cc
@@ -137,7 +114,7 @@ absent_by key x xs true test p rest = absurd cc
 absent_by key x xs false test p rest =
     ap (λ b. if b then Some x.1 else entry_of xs key) test ∙ rest (none_left (place_of key xs) p)
 
-pub not_found :
+not_found :
     (key : List ℕ) (es : Directory) → place_of key es ≡ None → entry_of es key ≡ None
 not_found key [] p = refl
 not_found key (x ∷ xs) p = absent_by key x xs (bytes_eq key x.0) refl p (λ q. not_found key xs q)

@@ -2,10 +2,10 @@
 //! some server is known to hold, the servers that hold it, and whether the entry is to go.
 #![tactic(auto)]
 
-ghost use Rattle.std.specs.Prelude.{◌≡◌, ℕ, ◌^◌, ◌<◌, ◌≤◌, ◌↔◌, [], length, Some, slice_get, IfOk, IfSome};
-ghost use Rattle.std.specs.Prelude.{IfNone, None, IsTrue, true, vec_capacity, All};
-ghost use Rattle.peg_model.specs.Rules.{entry_of, base_of, list_key, mark_key, note_reply, reported};
-ghost use Rattle.peg_model.specs.Rules.{ends, new_listing};
+ghost use Rattle.std.specs.Prelude.{◌≡◌, ℕ, ◌^◌, ◌<◌, ◌≤◌, ◌↔◌, [], length, Some, slice_get};
+ghost use Rattle.std.specs.Prelude.{IfOk, IfSome, IfNone, None, IsTrue, true, vec_capacity, All};
+ghost use Rattle.peg_model.specs.Rules.{entry_of, base_of, list_key, mark_key, note_reply};
+ghost use Rattle.peg_model.specs.Rules.{reported, ends, new_listing};
 ghost use Rattle.peg_model.specs.Handover.{is_entry};
 ghost use Rattle.peg_directory.specs.Table.{Table, IsDirectory, with_entries, IsAt};
 
@@ -74,6 +74,14 @@ impl Directory {
         ensures { IsTrue result ↔ (length self.now.entries ≡ 0) }
     {
         self.entries.is_empty()
+    }
+
+    /// The entries, in the order of listing.
+    pub fn entries(&self) -> &[(Key, Listing)]
+        ensures entries { result.now ≡ self.now.entries }
+        ensures whole { IsDirectory self.now }
+    {
+        &self.entries
     }
 
     /// An entry, by its place in the order of listing.

@@ -26,9 +26,6 @@ fn keys_are_listed_in_order_while_there_is_room(rt: HostRuntime) -> Result<(), F
     assert_eq!(rt; (key, entry.listing, entry.mark), (a, 6, None));
     assert_eq!(rt; (entry.base, entry.completed), (Version(9), Version(9)));
     assert_eq!(rt; entry.holders.bits(), 4);
-    let mut other = Directory::make(rt.alloc(), &config)?;
-    other.load(&[]);
-    assert!(rt; other.is_empty());
     directory.clear();
     assert!(rt; directory.is_empty());
     Ok(())
@@ -106,5 +103,20 @@ fn a_marked_entry_goes_once_its_home_reports(rt: HostRuntime) -> Result<(), Fail
     assert!(rt; directory.len() == 2);
     assert_eq!(rt; directory.entry(0).0, a);
     assert_eq!(rt; directory.entry(1).0, k);
+    Ok(())
+}
+
+#[test]
+fn entries_are_loaded(rt: HostRuntime) -> Result<(), Fail> {
+    let config = Config::make(1, 3, 2, 2, 2, 4, 1)?;
+    let k = Key::read(b"k")?;
+    let mut directory = Directory::make(rt.alloc(), &config)?;
+    let mut other = Directory::make(rt.alloc(), &config)?;
+    let home = ServerId(2);
+    assert!(rt; u64::from(home.0) < directory.config().servers());
+    directory.promote(&k, 4, home, Version(7));
+    other.load(directory.entries());
+    assert_eq!(rt; other.len(), 1);
+    assert_eq!(rt; other.base_of(&k), Some(Version(7)));
     Ok(())
 }

@@ -35,11 +35,13 @@ invariant_of-self-2 c =
     let es = c.self.inside.entries.items in
     let was = found_within rack key es c.in-Some.entry c.self.invariant.0.within
     (ap (λ es. entry_of es key) (sym c.deref.ensures.value) ∙ c.in-Some.ensures.found.found) in
-    let low = subst (λ (t : Table). c.args.server < t.rack.servers) (sym c.self.view_is) c.requires in
+    let low = subst (λ (t : Table). c.args.server < t.rack.servers) (sym c.self.view_is)
+    c.requires in
     let now = ap (λ (r : Note × Listing). is_entry rack (key, r.1)) c.reported-note.ensures.reported
     ∙ reported_within rack key c.in-Some.entry c.args.server c.args.version was low
     c.reported-note.ensures.small in (
       after_put rack key es c.deref.result.now c.in-Some.place c.in-Some.entry
-          c.reported-note.result.1 c.self.invariant.0 c.deref.ensures.value c.in-Some.ensures.found now,
+          c.reported-note.result.1 c.self.invariant.0 c.deref.ensures.value c.in-Some.ensures.found
+          now,
       c.self.invariant.1,
     )

@@ -25,7 +25,8 @@ invariant_of-self c =
       c.self.invariant.0.few,
     ) in (
       after_push rack key c.self.inside.entries.items c.deref.result.now
-          c.push_reserved.new.self.items c.new_listing.result c.self.invariant.0 c.deref.ensures.value
+          c.push_reserved.new.self.items c.new_listing.result c.self.invariant.0
+          c.deref.ensures.value
           c.in_default.ensures.absent one room c.push_reserved.ensures.items,
       omega (arith, c.push_reserved.ensures.capacity, c.self.invariant.1),
     )
