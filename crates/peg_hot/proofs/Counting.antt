@@ -1,7 +1,7 @@
 -- The counts of a list of keys against how often a key was seen.
-use Rattle.std.proofs.Common.{◌≡◌, ◌<◌, ◌≤◌, ◌+◌, ◌-◌, ◌*◌, ◌^◌, ◌==◌, ◌||◌, ℕ, zero, suc, Bool}
+use Rattle.std.proofs.Common.{◌≡◌, ◌<◌, ◌≤◌, ◌+◌, ◌-◌, ◌*◌, ◌==◌, ◌||◌, ℕ, zero, suc, Bool}
 use Rattle.std.proofs.Common.{true, false, if◌then◌else◌, nat_lt, List, [], ◌∷◌, ◌++◌, length}
-use Rattle.std.proofs.Common.{take, map, refl, sym, ap, ◌∙◌, subst, arith, rules}
+use Rattle.std.proofs.Common.{take, refl, sym, ap, ◌∙◌, subst, arith}
 use Rattle.std.proofs.lemmas.Bool.Decides.{nat_tests}
 use Rattle.std.proofs.Math.Nat.{mul-le-mul_left}
 use Rattle.std.specs.List.{list_any, AllByRecursion}
@@ -10,12 +10,12 @@ use Rattle.peg_name.specs.declared.Row.{Row}
 use Rattle.peg_model.specs.Words.{last_number}
 use Rattle.peg_model.specs.Counts.{Counts, no_counts, has_row, raised, least, taken_over}
 use Rattle.peg_model.specs.Counts.{rows_after, see}
-use Rattle.peg_hot.specs.Table.{Table, IsTable, sum_of, IsDistinct, counted}
+use Rattle.peg_hot.specs.Table.{Table, sum_of, IsDistinct, counted}
 use Rattle.peg_hot.specs.Laws.{seen_in, seen, CountsWell}
-use Rattle.peg_hot.proofs.Rows.{turned, same, itself, first_not, rest_not, both_not, raised_none}
+use Rattle.peg_hot.proofs.Rows.{turned, same, itself, first_not, rest_not, both_not}
 use Rattle.peg_hot.proofs.Rows.{length-raised, has_row-raised, IsDistinct-raised, sum_of-raised}
-use Rattle.peg_hot.proofs.Rows.{length-push, sum_of-push, has_row-push, IsDistinct-push, has_count}
-use Rattle.peg_hot.proofs.Rows.{length-taken_over, sum_of-taken_over, has_row-taken_over}
+use Rattle.peg_hot.proofs.Rows.{length-push, sum_of-push, IsDistinct-push, has_count}
+use Rattle.peg_hot.proofs.Rows.{length-taken_over, sum_of-taken_over}
 use Rattle.peg_hot.proofs.Rows.{IsDistinct-taken_over, small_rows, least_low, least_high}
 
 -- ---- a table after a further request

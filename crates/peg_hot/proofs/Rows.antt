@@ -1,8 +1,7 @@
 -- Rows of a table under a further request.
-use Rattle.std.proofs.Common.{◌≡◌, ◌<◌, ◌≤◌, ◌+◌, ◌-◌, ◌*◌, ◌^◌, ◌==◌, ◌||◌, ℕ, zero, suc, Bool}
-use Rattle.std.proofs.Common.{true, false, if◌then◌else◌, nat_lt, List, [], ◌∷◌, ◌++◌, length, map}
+use Rattle.std.proofs.Common.{◌≡◌, ◌<◌, ◌≤◌, ◌+◌, ◌==◌, ◌||◌, ℕ, zero, suc, Bool}
+use Rattle.std.proofs.Common.{true, false, if◌then◌else◌, nat_lt, List, [], ◌∷◌, ◌++◌, length}
 use Rattle.std.proofs.Common.{get_or, take, drop, set, add-one, refl, sym, ap, ◌∙◌, subst, arith}
-use Rattle.std.proofs.Common.{rules}
 use Rattle.std.proofs.lemmas.Bool.Decides.{nat_tests}
 use Rattle.std.proofs.lemmas.List.{drop_more, set_split, take_at}
 use Rattle.std.specs.List.{list_any, AllByRecursion}

@@ -8,7 +8,6 @@ use Rattle.std.specs.Prelude.{◌≡◌, ◌≤◌, ◌<◌, ◌+◌, ◌-◌, �
 use Rattle.std.specs.Prelude.{if◌then◌else◌}
 use Rattle.std.specs.List.{AllByRecursion}
 use Rattle.std.specs.Str.{bytes_eq}
-use Rattle.peg_name.specs.declared.Row.{Row}
 use Rattle.peg_model.specs.Words.{last_number}
 use Rattle.peg_model.specs.Counts.{Counts, has_row}
 use Rattle.peg_hot.specs.Table.{sum_of}

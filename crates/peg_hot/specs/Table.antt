@@ -2,9 +2,12 @@
 --     Table      how many rows it has at most, and the counts
 --     IsTable table      what every table keeps
 --     counted most counts keys      the counts after further requests for these keys
-use Rattle.std.specs.Prelude.{◌≡◌, ◌<◌, ◌≤◌, ◌+◌, ◌^◌, ℕ, Bool, false, List, [], ◌∷◌, length}
+use Rattle.std.specs.Prelude.{◌≡◌, ◌<◌, ◌≤◌, ◌+◌, ◌^◌, ℕ, true, false, List, [], ◌∷◌}
+use Rattle.std.specs.Prelude.{length}
+use Rattle.std.specs.List.{list_all}
 use Rattle.peg_name.specs.declared.Row.{Row}
-use Rattle.peg_model.specs.Counts.{Counts, no_counts, has_row, see}
+use Rattle.peg_model.specs.Counts.{Counts, has_row, see}
+use Rattle.peg_model.specs.Packet.{row_in_range}
 
 pub record Table : Type 0 where
   pub most : ℕ
@@ -26,6 +29,7 @@ pub record IsTable (t : Table) : Type 0 where
   pub few : length t.counts.rows ≤ t.most
   pub sum : sum_of t.counts.rows ≡ t.counts.total
   pub distinct : IsDistinct t.counts.rows
+  pub within : list_all row_in_range t.counts.rows ≡ true
 
 abbrev pub counted : ℕ → Counts → List (List ℕ) → Counts
 counted most counts [] = counts

@@ -2,8 +2,9 @@
 #![tactic(auto)]
 
 ghost use Rattle.std.specs.Prelude.{◌≡◌, ℕ, ◌+◌, ◌<◌, ◌≤◌, ◌-◌, ◌^◌, ◌↔◌, List, length};
-ghost use Rattle.std.specs.Prelude.{vec_capacity, Some, slice_get, IfOk, IsTrue};
-ghost use Rattle.std.specs.List.{AllByRecursion};
+ghost use Rattle.std.specs.Prelude.{vec_capacity, Some, slice_get, IfOk, IsTrue, true};
+ghost use Rattle.std.specs.List.{AllByRecursion, list_all};
+ghost use Rattle.peg_model.specs.Packet.{row_in_range, are_distinct, keys_of_rows};
 ghost use Rattle.peg_model.specs.Counts.{see, no_counts, has_row, raised, least, taken_over};
 ghost use Rattle.peg_model.specs.Counts.{rows_after};
 ghost use Rattle.peg_hot.specs.Table.{Table, IsDistinct, counted};
@@ -90,6 +91,7 @@ impl Counts {
         if self.total == u64::MAX {
             return;
         }
+        prove!(key.bytes().len() <= 32);
         self.total += 1;
         count_in(&mut self.rows, self.most, key);
     }
@@ -114,6 +116,17 @@ impl Counts {
         ensures { IsTrue result ↔ (length self.now.counts.rows ≡ 0) }
     {
         self.rows.is_empty()
+    }
+
+    /// The rows, in table order: what a report may carry.
+    #[tactic(auto, using(crate::proofs::Within::distinct_keys))]
+    pub fn rows(&self) -> &[Row]
+        ensures rows { result.now ≡ self.now.counts.rows }
+        ensures few { length result.now ≤ self.now.most }
+        ensures within { list_all row_in_range result.now ≡ true }
+        ensures distinct { are_distinct (keys_of_rows result.now) ≡ true }
+    {
+        &self.rows
     }
 
     /// A row, in table order.

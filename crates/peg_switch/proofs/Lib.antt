@@ -1,1 +1,3 @@
 pub mod Forwards
+pub mod Steps
+pub mod Collecting

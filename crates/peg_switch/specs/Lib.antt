@@ -1,1 +1,4 @@
-pub mod SoFar
+pub mod Seen
+pub mod Kept
+pub mod Nodes
+pub mod Modes

@@ -28,7 +28,7 @@ pub record Moved
     (rack : Rack) (sent : List (Node × Packet)) (items0 items1 items2 : List (Node × List ℕ))
     (post0 post1 post2 : Outbox) : Type 0
   where
-    pub empty : post0 ≡ record { format = rack.format; slots = 1; items = [] }
+    pub empty : post0 ≡ record { format = rack.format; slots = 64; items = [] }
     pub same : items1 ≡ items0
     pub put : post1 ≡ posted post0 sent
     pub fits : are_packets rack.format sent ≡ true
@@ -39,8 +39,8 @@ pub record Moved
 
 pub put_is :
     (rack : Rack) (sent : List (Node × Packet)) (post0 post1 : Outbox)
-    → post0 ≡ record { format = rack.format; slots = 1; items = [] } → post1 ≡ posted post0 sent
-    → post1 ≡ record { format = rack.format; slots = 1; items = spelled rack.format sent }
+    → post0 ≡ record { format = rack.format; slots = 64; items = [] } → post1 ≡ posted post0 sent
+    → post1 ≡ record { format = rack.format; slots = 64; items = spelled rack.format sent }
 put_is rack sent post0 post1 empty put = put ∙ ap (λ (o : Outbox). posted o sent) empty
 
 pub items_are :
@@ -130,7 +130,7 @@ moved_within rack place cs ss ws os sent items0 items1 items2 post0 post1 post2 
 pub past_limit :
     (rack : Rack) (sent : List (Node × Packet)) (items0 items1 : List (Node × List ℕ))
     → (post0 post1 : Outbox) (after : World × Line)
-    → post0 ≡ record { format = rack.format; slots = 1; items = [] } → items1 ≡ items0
+    → post0 ≡ record { format = rack.format; slots = 64; items = [] } → items1 ≡ items0
     → post1 ≡ posted post0 sent → after.0.packets ≡ map packet_in items0 ++ sent
     → 200000 < length items1 + length post1.items
     → 200000 < length after.0.packets
@@ -145,7 +145,7 @@ past_limit rack sent items0 items1 post0 post1 after empty same put packets past
 
 pub one_put :
     (rack : Rack) (sent : List (Node × Packet)) (post0 post1 : Outbox)
-    → post0 ≡ record { format = rack.format; slots = 1; items = [] } → post1 ≡ posted post0 sent
+    → post0 ≡ record { format = rack.format; slots = 64; items = [] } → post1 ≡ posted post0 sent
     → Goes rack sent → length post1.items ≤ 1
 one_put rack sent post0 post1 empty put goes =
     omega (

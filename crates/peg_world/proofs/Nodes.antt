@@ -101,7 +101,7 @@ pub run_started :
     → ss ≡ map (new_server rack) (below rack.servers)
     → ws ≡ map (new_switch rack keys) (below rack.switches)
     → items ≡ [] → os ≡ []
-    → post ≡ record { format = rack.format; slots = 1; items = [] }
+    → post ≡ record { format = rack.format; slots = 64; items = [] }
     → IsRun (world_of rack 1 cs ss ws items os) 0 false post items
 run_started rack keys cs ss ws items os post limits none clients servers switches flown kept out =
     let unlisted : ws ≡ map (new_switch rack []) (below rack.switches) =

@@ -124,7 +124,7 @@ pub record IsRun
   where
     pub sound : is_over ≡ false → IsSound w
     pub outbox :
-        is_over ≡ false → post ≡ record { format = w.rack.format; slots = 1; items = [] }
+        is_over ≡ false → post ≡ record { format = w.rack.format; slots = 64; items = [] }
     pub flown : AllByRecursion (IsFlown w.rack) items
     pub few : length items ≤ 200000
     pub counted : length w.operations ≤ events

@@ -26,7 +26,7 @@ use peg_history::{History, KeyOrder};
 use peg_name::{ClientId, Config, Content, Key, Node, OutOfMemory, ServerId, SwitchId};
 use peg_packet::Post;
 use peg_server::Server;
-use peg_switch::Switch;
+use peg_switch::{Switch, most_packets};
 use saying::{give_up_said, issue_said, new_op, resend_said, stamped_write};
 use sending::send;
 use std::alloc::Global;
@@ -113,7 +113,7 @@ impl World {
             clients: making::clients(alloc, config)?,
             servers: making::servers(alloc, config)?,
             switches: making::switches(alloc, config, keys)?,
-            post: Post::make(alloc, config.format(), 1)?,
+            post: Post::make(alloc, config.format(), 64)?,
             packets: Packets::make(alloc),
             operations: Operations::make(alloc),
         })
@@ -404,6 +404,7 @@ impl World {
         reads_back_what_is_spelled();
         self.packets.reserve()?;
         let (_to, bytes) = self.packets.item(number as usize);
+        prove!(most_packets(self.config.format()) <= 64);
         let did = self.switches[id.0 as usize].step(bytes, pick, &mut self.post);
         let stamped = stamped_write(bytes, &did);
         match send(&mut self.packets, &mut self.post) {

@@ -1,4 +1,4 @@
-use Rattle.std.proofs.Common.{◌≡◌, ◌≤◌, arith}
+use Rattle.std.proofs.Common.{arith}
 use Rattle.peg_hot.proofs.Counting.{least_last}
 use Rattle.peg_hot.proofs.least.Goals as goal
 

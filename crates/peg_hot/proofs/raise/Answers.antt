@@ -1,4 +1,4 @@
-use Rattle.std.proofs.Common.{◌≡◌, ◌<◌, ◌+◌, ◌∙◌, ap, sym, subst, arith, length, get_or, List}
+use Rattle.std.proofs.Common.{◌<◌, ◌+◌, ◌∙◌, ap, sym, subst, arith, length, List}
 use Rattle.std.proofs.lemmas.List.{get_or_read}
 use Rattle.std.specs.Str.{bytes_eq}
 use Rattle.peg_name.specs.declared.Row.{Row}

@@ -1,0 +1,5 @@
+pub mod Placing
+pub mod Sending
+pub mod Kept
+pub mod Stepping
+pub mod Planning

@@ -1,0 +1,405 @@
+//! The controller of a rack: it orders numbered commands, one at a time, follows their
+//! acknowledgements, and plans which keys the switch is to list.
+#![tactic(auto)]
+
+ghost use Rattle.std.specs.Prelude.{◌≡◌, ◌≤◌, ◌<◌, ◌+◌, IfOk, length, true};
+ghost use Rattle.std.specs.Option.{option_map};
+ghost use Rattle.peg_event.specs.declared.Command.TheVariants as command;
+ghost use Rattle.peg_model.specs.Packet.{in_range};
+ghost use Rattle.peg_model.specs.Controller.{new_controller, order_command, retry_command, survey};
+ghost use Rattle.peg_model.specs.Controller.{make_plan, controller_step, no_such, is_handover_to};
+ghost use Rattle.peg_model.specs.Datagrams.{controller_on_bytes, are_packets};
+ghost use Rattle.peg_packet.specs.Seen.{seen};
+ghost use Rattle.peg_packet.specs.Outbox.{posted};
+
+use known::Known;
+use orders::Orders;
+use peg_event::{Command, Outcome};
+pub use peg_event::{ControlDid, Order, Plan, Retry};
+use peg_name::{Config, Key, Node, OutOfMemory, ServerId, SwitchId};
+use peg_packet::{Packet, Post, decode, outcome_of};
+use report::Report;
+use std::alloc::Global;
+use std::marker::Model;
+
+mod known;
+mod orders;
+mod outcomes;
+mod plans;
+mod report;
+mod send;
+#[cfg(test)]
+mod tests;
+
+/// What a controller knows of its rack: the active switch and its epoch, the listed keys and the
+/// last report; and the commands that it orders. Its room is taken when it is made, so no later
+/// call takes memory.
+#[derive(Drop)]
+pub struct Controller {
+    config: Config,
+    orders: Orders,
+    switch: SwitchId,
+    epoch: u64,
+    known: Known,
+    has_report: bool,
+    report: Report,
+}
+
+impl Model for Controller {
+    ghost use Rattle.std.specs.Prelude.{if◌then◌else◌, Some, None};
+    ghost use Rattle.peg_model.specs.Controller.{Controller as TheController};
+    ghost use Rattle.peg_control.specs.Fits.{IsController};
+
+    ghost Value = { TheController };
+
+    ghost view = { λ c. record {
+      rack = c.config;
+      last = c.orders.last;
+      pending = c.orders.pending;
+      switch = c.switch;
+      epoch = c.epoch;
+      known = c.known;
+      report = if c.has_report then Some c.report else None;
+      queue = c.orders.queue;
+    } };
+
+    ghost invariant = { λ c. IsController (record {
+      rack = c.config;
+      last = c.orders.last;
+      pending = c.orders.pending;
+      switch = c.switch;
+      epoch = c.epoch;
+      known = c.known;
+      report = if c.has_report then Some c.report else None;
+      queue = c.orders.queue;
+    }) };
+}
+
+impl Controller {
+    /// A controller of the rack that has ordered nothing. Switch 0 is active in epoch 1, and these
+    /// keys are listed, of which there are at most as many as the rack lists. `OutOfMemory` where
+    /// there is no memory for the most keys, commands and rows that it may ever keep.
+    pub fn make(alloc: Global, config: &Config, keys: &[Key]) -> Result<Controller, OutOfMemory>
+        requires { length keys.now ≤ config.now.listed }
+        ensures { IfOk result (λ c. c ≡ new_controller config.now keys.now) }
+    {
+        prove!(config.listed() <= 64 && config.switches() >= 1);
+        Ok(Controller {
+            config: *config,
+            orders: Orders::make(alloc)?,
+            switch: SwitchId(0),
+            epoch: 1,
+            known: Known::make(alloc, keys)?,
+            has_report: false,
+            report: Report::make(alloc)?,
+        })
+    }
+
+    /// The rack that it is the controller of.
+    pub fn config(&self) -> &Config
+        ensures { result.now ≡ self.now.rack }
+    {
+        &self.config
+    }
+
+    /// The number of the pending command.
+    pub fn pending(&self) -> Option<u64>
+        ensures { result ≡ option_map (λ _. self.now.last) self.now.pending }
+    {
+        self.orders.pending().map(|_| self.orders.last())
+    }
+
+    /// The epoch of the active switch, from 1 on.
+    pub fn epoch(&self) -> u64
+        ensures { result ≡ self.now.epoch }
+    {
+        self.epoch
+    }
+
+    /// The active switch.
+    pub fn current(&self) -> SwitchId
+        ensures { result ≡ self.now.switch }
+    {
+        self.switch
+    }
+}
+
+impl Controller {
+    /// Orders the key to be listed. `Busy` where a command is pending, else `Spent` where no number
+    /// is left: the last one is then 18446744073709551614. Then nothing changes.
+    pub fn promote(&mut self, key: &Key, post: &mut Post) -> Order
+        requires format { post.old.format ≡ self.old.rack.format }
+        requires room { length post.old.items < post.old.slots }
+        ensures answer { result ≡ (order_command self.old (command.Promote key.now)).did }
+        ensures after { self.new ≡ (order_command self.old (command.Promote key.now)).state }
+        ensures sent { post.new ≡ posted post.old
+            (order_command self.old (command.Promote key.now)).sent }
+        ensures packets { are_packets self.old.rack.format
+            (order_command self.old (command.Promote key.now)).sent ≡ true }
+    {
+        self.order(&Command::Promote { key: *key }, post)
+    }
+
+    /// Orders the key's entry to be marked. It is refused as a promotion is.
+    pub fn demote(&mut self, key: &Key, post: &mut Post) -> Order
+        requires format { post.old.format ≡ self.old.rack.format }
+        requires room { length post.old.items < post.old.slots }
+        ensures answer { result ≡ (order_command self.old (command.Demote key.now)).did }
+        ensures after { self.new ≡ (order_command self.old (command.Demote key.now)).state }
+        ensures sent { post.new ≡ posted post.old
+            (order_command self.old (command.Demote key.now)).sent }
+        ensures packets { are_packets self.old.rack.format
+            (order_command self.old (command.Demote key.now)).sent ≡ true }
+    {
+        self.order(&Command::Demote { key: *key }, post)
+    }
+
+    /// Orders the key to be copied to a server. It is refused as a promotion is, and then is
+    /// `NoSuch` where the rack hasn't that server.
+    pub fn copy(&mut self, key: &Key, target: u8, post: &mut Post) -> Order
+        requires format { post.old.format ≡ self.old.rack.format }
+        requires room { length post.old.items < post.old.slots }
+        ensures answer { result ≡ (order_command self.old (command.Copy key.now target)).did }
+        ensures after { self.new ≡ (order_command self.old (command.Copy key.now target)).state }
+        ensures sent { post.new ≡ posted post.old
+            (order_command self.old (command.Copy key.now target)).sent }
+        ensures packets { are_packets self.old.rack.format
+            (order_command self.old (command.Copy key.now target)).sent ≡ true }
+    {
+        let target = ServerId(target);
+        self.order(&Command::Copy { key: *key, target }, post)
+    }
+
+    /// Orders the key's home to hold the content at the version of the key's promotion. It is
+    /// refused as a promotion is.
+    pub fn fence(&mut self, key: &Key, post: &mut Post) -> Order
+        requires format { post.old.format ≡ self.old.rack.format }
+        requires room { length post.old.items < post.old.slots }
+        ensures answer { result ≡ (order_command self.old (command.Fence key.now)).did }
+        ensures after { self.new ≡ (order_command self.old (command.Fence key.now)).state }
+        ensures sent { post.new ≡ posted post.old
+            (order_command self.old (command.Fence key.now)).sent }
+        ensures packets { are_packets self.old.rack.format
+            (order_command self.old (command.Fence key.now)).sent ≡ true }
+    {
+        self.order(&Command::Fence { key: *key }, post)
+    }
+
+    /// Orders the active switch to hand its state over to another. It is refused as a promotion
+    /// is, and then is `NoSuch` where the rack hasn't that switch, and `SameSwitch` where it is the
+    /// active one.
+    pub fn handover(&mut self, target: u8, post: &mut Post) -> Order
+        requires format { post.old.format ≡ self.old.rack.format }
+        requires room { length post.old.items < post.old.slots }
+        ensures answer { result ≡ (order_command self.old (command.Handover target)).did }
+        ensures after { self.new ≡ (order_command self.old (command.Handover target)).state }
+        ensures sent { post.new ≡ posted post.old
+            (order_command self.old (command.Handover target)).sent }
+        ensures packets { are_packets self.old.rack.format
+            (order_command self.old (command.Handover target)).sent ≡ true }
+    {
+        let target = SwitchId(target);
+        self.order(&Command::Handover { target }, post)
+    }
+
+    /// Orders the active switch to empty its counts. It is refused as a promotion is.
+    pub fn clear(&mut self, post: &mut Post) -> Order
+        requires format { post.old.format ≡ self.old.rack.format }
+        requires room { length post.old.items < post.old.slots }
+        ensures answer { result ≡ (order_command self.old command.Clear).did }
+        ensures after { self.new ≡ (order_command self.old command.Clear).state }
+        ensures sent { post.new ≡ posted post.old (order_command self.old command.Clear).sent }
+        ensures packets { are_packets self.old.rack.format
+            (order_command self.old command.Clear).sent ≡ true }
+    {
+        self.order(&Command::Clear, post)
+    }
+}
+
+impl Controller {
+    /// Sends the pending command again; where none is pending, tells every client again which
+    /// switch is the active one.
+    pub fn retry(&mut self, post: &mut Post) -> Retry
+        requires format { post.old.format ≡ self.old.rack.format }
+        requires room { length post.old.items + self.old.rack.clients ≤ post.old.slots }
+        ensures answer { result ≡ (retry_command self.old).did }
+        ensures after { self.new ≡ (retry_command self.old).state }
+        ensures sent { post.new ≡ posted post.old (retry_command self.old).sent }
+        ensures packets { are_packets self.old.rack.format (retry_command self.old).sent ≡ true }
+    {
+        let Some(command) = self.orders.pending() else {
+            self.announce(post);
+            return Retry::Announced { epoch: self.epoch };
+        };
+        prove!(self.config.clients() >= 1);
+        self.send(&command, post);
+        Retry::Command {
+            number: self.orders.last(),
+        }
+    }
+
+    /// Asks the active switch for a report.
+    #[tactic(auto, unfolding(peg_model::specs::Packet::in_range))]
+    pub fn survey(&mut self, post: &mut Post)
+        requires format { post.old.format ≡ self.old.rack.format }
+        requires room { length post.old.items < post.old.slots }
+        ensures after { self.new ≡ (survey self.old).state }
+        ensures sent { post.new ≡ posted post.old (survey self.old).sent }
+        ensures packets { are_packets self.old.rack.format (survey self.old).sent ≡ true }
+    {
+        let packets = [Packet::Survey];
+        post.put(Node::Switch(self.switch), &packets[0]);
+    }
+
+    /// Orders by the last report: a demotion of each known key that it has no row of, or one of a
+    /// count below `demote_below`, and then a promotion of each key that isn't known and surely was
+    /// asked for `promote_at` times, the hottest first; 64 commands at most. The first is sent, and
+    /// the others wait for its acknowledgement. `Busy` where a command is pending, else `Spent`
+    /// where fewer than 64 numbers are left, else `NoReport` where none was taken; then nothing
+    /// changes.
+    pub fn plan(&mut self, promote_at: u64, demote_below: u64, post: &mut Post) -> Plan
+        requires format { post.old.format ≡ self.old.rack.format }
+        requires room { length post.old.items < post.old.slots }
+        ensures answer { result ≡ (make_plan self.old promote_at demote_below).did }
+        ensures after { self.new ≡ (make_plan self.old promote_at demote_below).state }
+        ensures sent { post.new ≡ posted post.old
+            (make_plan self.old promote_at demote_below).sent }
+        ensures packets { are_packets self.old.rack.format
+            (make_plan self.old promote_at demote_below).sent ≡ true }
+    {
+        let last = self.orders.last();
+        if self.orders.is_pending() {
+            return Plan::Busy { pending: last };
+        }
+        if last > u64::MAX - 65 {
+            return Plan::Spent { last };
+        }
+        if !self.has_report {
+            return Plan::NoReport;
+        }
+        prove!(self.config.listed() <= 64);
+        let (demotes, promotes) = plans::wait_all(
+            &mut self.orders,
+            &self.known,
+            &self.report,
+            promote_at,
+            demote_below,
+        );
+        self.orders.begin_next();
+        self.send_pending(post);
+        Plan::Planned {
+            demotes: demotes as u64,
+            promotes: promotes as u64,
+        }
+    }
+}
+
+impl Controller {
+    /// Takes any bytes. An acknowledgement of the pending command ends that one, and the next one
+    /// that waits is sent; a handover that is done is announced to every client first. A report
+    /// takes the place of the last one. It is `Malformed` where no packet is spelled by the bytes;
+    /// `OutOfPlace` where the packet is of the other format or of another kind; `Ignored` where the
+    /// number isn't that of the pending command; and `OutOfPlace` where the outcome can't be that of
+    /// the pending command, or lists a key where as many are known as the rack lists. Then nothing
+    /// changes.
+    #[tactic(auto, unfolding(peg_model::specs::Controller::controller_step))]
+    pub fn step(&mut self, bytes: &[u8], post: &mut Post) -> ControlDid
+        requires format { post.old.format ≡ self.old.rack.format }
+        requires room { length post.old.items + self.old.rack.clients < post.old.slots }
+        ensures answer { result ≡ (controller_on_bytes self.old bytes.now).did }
+        ensures after { self.new ≡ (controller_on_bytes self.old bytes.now).state }
+        ensures sent { post.new ≡ posted post.old (controller_on_bytes self.old bytes.now).sent }
+        ensures packets { are_packets self.old.rack.format
+            (controller_on_bytes self.old bytes.now).sent ≡ true }
+    {
+        let Some((format, packet)) = decode(bytes) else {
+            return ControlDid::Malformed;
+        };
+        if format != self.config.format() {
+            return ControlDid::OutOfPlace;
+        }
+        self.take(&packet, post)
+    }
+
+    #[tactic(auto, unfolding(peg_model::specs::Controller::controller_step, peg_model::specs::Packet::in_range))]
+    fn take(&mut self, packet: &Packet<'_>, post: &mut Post) -> ControlDid
+        requires format { post.old.format ≡ self.old.rack.format }
+        requires room { length post.old.items + self.old.rack.clients < post.old.slots }
+        requires range { in_range self.old.rack.format (seen packet.now) ≡ true }
+        ensures answer { result ≡ (controller_step self.old (seen packet.now)).did }
+        ensures after { self.new ≡ (controller_step self.old (seen packet.now)).state }
+        ensures sent { post.new ≡ posted post.old
+            (controller_step self.old (seen packet.now)).sent }
+        ensures packets { are_packets self.old.rack.format
+            (controller_step self.old (seen packet.now)).sent ≡ true }
+    {
+        match packet {
+            Packet::CommandAck {
+                number,
+                outcome,
+                value,
+            } => self.acknowledge(*number, &outcome_of(*outcome, *value), post),
+            Packet::Report { rows, .. } => {
+                self.report.take(rows);
+                self.has_report = true;
+                ControlDid::HasReport {
+                    rows: rows.len() as u8,
+                }
+            }
+            _ => ControlDid::OutOfPlace,
+        }
+    }
+}
+
+impl Controller {
+    /// Gives a command the next number and sends it to the active switch, or says why not, and
+    /// then nothing changes.
+    fn order(&mut self, command: &Command, post: &mut Post) -> Order
+        requires format { post.old.format ≡ self.old.rack.format }
+        requires room { length post.old.items < post.old.slots }
+        ensures answer { result ≡ (order_command self.old command.now).did }
+        ensures after { self.new ≡ (order_command self.old command.now).state }
+        ensures sent { post.new ≡ posted post.old (order_command self.old command.now).sent }
+        ensures packets { are_packets self.old.rack.format
+            (order_command self.old command.now).sent ≡ true }
+    {
+        let last = self.orders.last();
+        if self.orders.is_pending() {
+            return Order::Busy { pending: last };
+        }
+        if last == u64::MAX - 1 {
+            return Order::Spent { last };
+        }
+        if let Some(target) = no_such(&self.config, command) {
+            return Order::NoSuch { target };
+        }
+        if is_handover_to(self.switch, command) {
+            return Order::SameSwitch {
+                switch: self.switch,
+            };
+        }
+        self.orders.begin(command);
+        self.send(command, post);
+        Order::Sent { number: last + 1 }
+    }
+}
+
+/// The target of a copy or a handover that the rack hasn't.
+fn no_such(config: &Config, command: &Command) -> Option<u8>
+    ensures { result ≡ no_such config.now command.now }
+{
+    match command {
+        Command::Copy { target, .. } if !config.has_server(*target) => Some(target.0),
+        Command::Handover { target } if !config.has_switch(*target) => Some(target.0),
+        _ => None,
+    }
+}
+
+fn is_handover_to(switch: SwitchId, command: &Command) -> bool
+    ensures { result ≡ is_handover_to switch command.now }
+{
+    match command {
+        Command::Handover { target } => *target == switch,
+        _ => false,
+    }
+}

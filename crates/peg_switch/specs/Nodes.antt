@@ -1,0 +1,18 @@
+-- Where packets go.
+--     is_in_rack rack to      whether the rack has the node
+--     are_in_rack rack sent      whether it has each that something is sent to
+use Rattle.std.specs.Prelude.{Bool, true, nat_lt, List}
+use Rattle.std.specs.List.{list_all}
+use Rattle.peg_name.specs.Name.{Rack}
+use Rattle.peg_name.specs.declared.Node.{Node}
+use Rattle.peg_name.specs.declared.Node.TheVariants as node
+use Rattle.peg_model.specs.Packet.{Packet}
+
+abbrev pub is_in_rack : Rack → Node → Bool
+is_in_rack rack (node.Client id) = nat_lt id rack.clients
+is_in_rack rack (node.Server id) = nat_lt id rack.servers
+is_in_rack rack (node.Switch id) = nat_lt id rack.switches
+is_in_rack rack node.Controller = true
+
+abbrev pub are_in_rack : Rack → List (Node × Packet) → Bool
+are_in_rack rack sent = list_all (λ item. is_in_rack rack item.0) sent
