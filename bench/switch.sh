@@ -21,15 +21,13 @@ rm -f src/*.rt stdin stdout
 cat > src/main.rt <<'RATTLE'
 #![tactic(auto)]
 
-use peg_name::{Config, Key, SwitchId};
+use peg_name::{Config, Key, OutOfMemory, SwitchId};
 use peg_packet::{Post, decode};
 use peg_switch::{Switch, SwitchDid, most_packets};
+use std::alloc::Global;
 use std::io;
 use std::process::Abort;
 use std::time::Instant;
-
-// The key's last byte stands at this place of each packet.
-const LAST: usize = 32;
 
 fn step(rt: &impl Abort, switch: &mut Switch, post: &mut Post, bytes: &[u8], pick: u64) -> u64 {
     let format = switch.config().format();
@@ -57,16 +55,12 @@ fn walk(
     rt: &impl Abort,
     switch: &mut Switch,
     post: &mut Post,
-    packets: &mut [[u8; 68]; 5],
-    lengths: &[usize; 5],
+    packets: &[&[u8]],
     steps: bool,
 ) -> u64 {
     let mut refused: u64 = 0;
     for turn in 0..200_000_u64 {
-        for i in 0..5 {
-            packets[i][LAST - 1] = (turn % 64) as u8 + 1;
-            let len = lengths[i].min(68);
-            let bytes = &packets[i][..len];
+        for bytes in packets {
             let one = if steps {
                 step(rt, switch, post, bytes, turn)
             } else {
@@ -78,35 +72,38 @@ fn walk(
     refused
 }
 
-fn padded(bytes: &[u8]) -> [u8; 68] {
-    let mut out = [0; 68];
-    let len = bytes.len().min(68);
-    out[..len].copy_from_slice(&bytes[..len]);
-    out
+fn made(rt: &impl Abort, alloc: Global) -> Result<(Switch, Post), OutOfMemory> {
+    let Ok(config) = Config::make(1, 16, 256, 1, 64, 12, 1) else {
+        return Err(OutOfMemory);
+    };
+    let keys: [Key; 0] = [];
+    let id = SwitchId(0);
+    assert!(rt; u64::from(id.0) < config.switches());
+    let mut switch = Switch::make(alloc, &config, id, &keys)?;
+    let mut post = Post::make(alloc, config.format(), 64)?;
+    let refused = list(rt, &mut switch, &mut post);
+    assert!(rt; refused == 0);
+    Ok((switch, post))
 }
 
 fn main(rt: HostRuntime) -> io::Result<()> {
-    let write = b"PG\x01\x02\0\x01\0\0\0\0\0\0\0\x01\0\0\0\0\0\0\0\0\0\0\x08some key\x01\0\x20value of thirty two bytes, whole";
-    let read = b"PG\x01\x01\0\x02\0\0\0\0\0\0\0\x02\0\0\0\0\0\0\0\0\0\0\x08some key";
-    let other = b"PG\x01\x01\0\x03\0\0\0\0\0\0\0\x02\0\0\0\0\0\0\0\0\0\0\x08some key";
-    let wrote = b"PG\x01\x06\0\x01\0\0\0\0\0\0\0\x01\0\0\0\0\0\0\0\x50\x03\0\x08some key";
-    let answer = b"PG\x01\x05\0\x02\0\0\0\0\0\0\0\x02\0\0\0\0\0\0\0\x50\x02\0\x08some key\x01\0\x20value of thirty two bytes, whole";
-    let mut packets = [padded(write), padded(read), padded(other), padded(wrote), padded(answer)];
-    let lengths = [write.len(), read.len(), other.len(), wrote.len(), answer.len()];
-    let config = Config::make(1, 16, 256, 1, 64, 12, 1).map_err(|_| io::ErrorKind::Other)?;
-    let keys: [Key; 0] = [];
-    let id = SwitchId(0);
-    assert!(&rt; u64::from(id.0) < config.switches());
-    let mut switch = Switch::make(rt.alloc(), &config, id, &keys).map_err(|_| io::ErrorKind::OutOfMemory)?;
-    let mut post = Post::make(rt.alloc(), config.format(), 64).map_err(|_| io::ErrorKind::OutOfMemory)?;
-    let unlisted = list(&rt, &mut switch, &mut post);
+    let packets: [&[u8]; 5] = [
+        b"PG\x01\x02\0\x01\0\0\0\0\0\0\0\x01\0\0\0\0\0\0\0\0\0\0\x08some ke\x01\x01\0\x08of eight",
+        b"PG\x01\x01\0\x02\0\0\0\0\0\0\0\x02\0\0\0\0\0\0\0\0\0\0\x08some ke\x11",
+        b"PG\x01\x06\0\x01\0\0\0\0\0\0\0\x01\0\0\0\0\0\0\0\x50\x03\0\x08some ke\x21",
+        b"PG\x01\x01\0\x03\0\0\0\0\0\0\0\x02\0\0\0\0\0\0\0\0\0\0\x08some ke\x31",
+        b"PG\x01\x05\0\x02\0\0\0\0\0\0\0\x02\0\0\0\0\0\0\0\x50\x02\0\x08some ke\x40\x01\0\x08of eight",
+    ];
+    let Ok((mut switch, mut post)) = made(&rt, rt.alloc()) else {
+        return Ok(());
+    };
     let start = Instant::now(&rt)?;
-    let malformed = walk(&rt, &mut switch, &mut post, &mut packets, &lengths, false);
+    let malformed = walk(&rt, &mut switch, &mut post, &packets, false);
     let decoding = start.elapsed(&rt)?;
     let start = Instant::now(&rt)?;
-    let refused = walk(&rt, &mut switch, &mut post, &mut packets, &lengths, true);
+    let refused = walk(&rt, &mut switch, &mut post, &packets, true);
     let stepping = start.elapsed(&rt)?;
-    println!(rt; "refused {unlisted}, {malformed} and {refused}")?;
+    println!(rt; "refused {malformed} and {refused}")?;
     println!(rt; "decode {} ms", decoding.as_millis())?;
     println!(rt; "step {} ms", stepping.as_millis())
 }

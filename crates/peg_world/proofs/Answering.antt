@@ -29,8 +29,8 @@ use Rattle.peg_model.specs.Switch.{Switch}
 use Rattle.peg_model.specs.World.{World, Operation, reports, delivers_item, after_client}
 use Rattle.peg_model.specs.World.{with_client, changed_at, answered_as}
 use Rattle.peg_packet.specs.Outbox.{Outbox}
-use Rattle.peg_world.specs.After.{answered_after, answered_number}
-use Rattle.peg_world.specs.Kept.{IsOpen}
+use Rattle.peg_ledger.specs.After.{answered_after, answered_number}
+use Rattle.peg_ledger.specs.Kept.{IsOpen}
 use Rattle.peg_world.specs.Running.{Running, Ends, at_place}
 use Rattle.peg_world.specs.Sound.{IsSound, IsRun, IsClient, world_of, packet_in}
 use Rattle.peg_world.specs.Sound.{is_sent_so_far, is_pending}
@@ -98,7 +98,7 @@ after_client_is :
     (did : ClientDid) (rack : Rack) (place : ℕ) (cs : List Client) (ss : List Server)
     → (ws : List Switch) (items : List (Node × List ℕ)) (os : List Operation) (id : ℕ)
     → after_client (world_of rack place cs ss ws items os) id did
-    ≡ world_of rack place cs ss ws items (answered_after place id did os)
+    ≡ world_of rack place cs ss ws items (answered_after [] place id did os)
 after_client_is (client_did.Wrote seq version) rack place cs ss ws items os id = refl
 after_client_is (client_did.Read seq version content) rack place cs ss ws items os id = refl
 after_client_is (client_did.Moved switch epoch) rack place cs ss ws items os id = refl
@@ -124,7 +124,7 @@ pub client_ends :
     → item.0 ≡ node.Client client → id ≡ client → slice_get cs id ≡ Some old → old.id ≡ id
     → is_sent_so_far (packet_in item).1 ≡ true
     → new ≡ (client_step old (packet_in item).1).state
-    → did ≡ (client_step old (packet_in item).1).did → os' ≡ answered_after place client did os
+    → did ≡ (client_step old (packet_in item).1).did → os' ≡ answered_after [] place client did os
     → Ends now
     (record {
       world = world_of rack place (slice_set cs id new) ss ws items os';
@@ -162,21 +162,21 @@ client_ends rack before place events over cs ss ws items os os' number pick item
     (after_client_is step.did rack place (slice_set cs id step.state) ss ws items os id)
     ∙ ap (λ sent. reports
     (world_of rack place (slice_set cs id step.state) ss ws items
-    (answered_after place id step.did os)) sent (said.Client id step.did)) (taken_sends old p far)
+    (answered_after [] place id step.did os)) sent (said.Client id step.did)) (taken_sends old p far)
     ∙ kept_packets rack place (slice_set cs id step.state) ss ws items
-    (answered_after place id step.did os) (said.Client id step.did)
+    (answered_after [] place id step.did os) (said.Client id step.did)
     ∙ ap (λ i. (
       world_of rack place (slice_set cs id step.state) ss ws items
-          (answered_after place i step.did os),
+          (answered_after [] place i step.did os),
       record { said = said.Client i step.did; sent = None },
     )) same
     ∙ ap (λ d. (
       world_of rack place (slice_set cs id step.state) ss ws items
-          (answered_after place client d os),
+          (answered_after [] place client d os),
       record { said = said.Client client d; sent = None },
     )) (sym answered)
     ∙ ap (λ (x : Client). (
-      world_of rack place (slice_set cs id x) ss ws items (answered_after place client did os),
+      world_of rack place (slice_set cs id x) ss ws items (answered_after [] place client did os),
       record { said = said.Client client did; sent = None },
     )) (sym is)
     ∙ ap (λ xs. (
@@ -195,11 +195,11 @@ client_ends rack before place events over cs ss ws items os os' number pick item
 taken_client :
     (rack : Rack) (place : ℕ) (os : List Operation) (id : ℕ) (c : Client) (p : Packet)
     → is_sent_so_far p ≡ true → IsClient rack os id c
-    → IsClient rack (answered_after place id (client_step c p).did os) id (client_step c p).state
+    → IsClient rack (answered_after [] place id (client_step c p).did os) id (client_step c p).state
 taken_client rack place os id c p far is =
     taken_both
     (λ (s : Step Client (Node × Packet) ClientDid).
-    IsClient rack (answered_after place id s.did os) id s.state) c p far is
+    IsClient rack (answered_after [] place id s.did os) id s.state) c p far is
     (λ seq version e. record {
       named = is.named;
       speaks = is.speaks;
@@ -216,12 +216,12 @@ taken_client rack place os id c p far is =
 taken_others :
     (rack : Rack) (place : ℕ) (os : List Operation) (id j : ℕ) (x c : Client) (p : Packet)
     → is_sent_so_far p ≡ true → (j ≡ id → ⊥) → IsClient rack os j x
-    → IsClient rack (answered_after place id (client_step c p).did os) j x
+    → IsClient rack (answered_after [] place id (client_step c p).did os) j x
 taken_others rack place os id j x c p far other is =
     let differs : id ≡ x.id → ⊥ = λ e. other (sym is.named ∙ sym e) in
     taken_both
     (λ (s : Step Client (Node × Packet) ClientDid).
-    IsClient rack (answered_after place id s.did os) j x) c p far is
+    IsClient rack (answered_after [] place id s.did os) j x) c p far is
     (λ seq version e. record {
       named = is.named;
       speaks = is.speaks;
@@ -238,11 +238,11 @@ taken_others rack place os id j x c p far other is =
 taken_places :
     (place : ℕ) (os : List Operation) (id : ℕ) (c : Client) (p : Packet)
     → is_sent_so_far p ≡ true → AllByRecursion (λ o. o.op.issued ≤ place) os
-    → AllByRecursion (λ o. o.op.issued ≤ place) (answered_after place id (client_step c p).did os)
+    → AllByRecursion (λ o. o.op.issued ≤ place) (answered_after [] place id (client_step c p).did os)
 taken_places place os id c p far issued =
     taken_both
     (λ (s : Step Client (Node × Packet) ClientDid).
-    AllByRecursion (λ o. o.op.issued ≤ place) (answered_after place id s.did os)) c p far issued
+    AllByRecursion (λ o. o.op.issued ≤ place) (answered_after [] place id s.did os)) c p far issued
     (λ seq version e. issued_answered place id seq place version Absent os issued)
     (λ seq version content e. issued_answered place id seq place version content os issued)
 
@@ -254,11 +254,11 @@ changed_length client seq change os = length-map os _
 taken_length :
     (place : ℕ) (os : List Operation) (id : ℕ) (c : Client) (p : Packet)
     → is_sent_so_far p ≡ true
-    → length (answered_after place id (client_step c p).did os) ≡ length os
+    → length (answered_after [] place id (client_step c p).did os) ≡ length os
 taken_length place os id c p far =
     taken_both
     (λ (s : Step Client (Node × Packet) ClientDid).
-    length (answered_after place id s.did os) ≡ length os) c p far refl
+    length (answered_after [] place id s.did os) ≡ length os) c p far refl
     (λ seq version e. changed_length id seq (answered_as [] place version Absent) os)
     (λ seq version content e. changed_length id seq (answered_as [] place version content) os)
 
@@ -269,24 +269,24 @@ pub client_run :
     → IsRun (world_of rack before cs ss ws items os) events over post items → over ≡ false
     → events < 1000000 → before < place → id ≡ client → slice_get cs id ≡ Some old
     → is_sent_so_far p ≡ true → new ≡ (client_step old p).state → did ≡ (client_step old p).did
-    → os' ≡ answered_after place client did os
+    → os' ≡ answered_after [] place client did os
     → IsRun (world_of rack place (slice_set cs id new) ss ws items os') (events + 1) over post items
 client_run rack before place events over cs ss ws items os os' post p id client old new did run live
     limited later same at far is answered told =
     let sound = run.sound live in
     let step : Step Client (Node × Packet) ClientDid = client_step old p in
-    let os_is : os' ≡ answered_after place id step.did os =
-    told ∙ ap (λ d. answered_after place client d os) answered
-    ∙ ap (λ i. answered_after place i step.did os) (sym same) in
+    let os_is : os' ≡ answered_after [] place id step.did os =
+    told ∙ ap (λ d. answered_after [] place client d os) answered
+    ∙ ap (λ i. answered_after [] place i step.did os) (sym same) in
     let sound1 : IsSound (world_of rack place (slice_set cs id step.state) ss ws items
-    (answered_after place id step.did os)) =
+    (answered_after [] place id step.did os)) =
     record {
       limits = sound.limits;
       clients = length-set cs id step.state ∙ sound.clients;
       servers = sound.servers;
       switches = sound.switches;
       each_client =
-          each_set (IsClient rack os) (IsClient rack (answered_after place id step.did os)) cs id
+          each_set (IsClient rack os) (IsClient rack (answered_after [] place id step.did os)) cs id
           step.state sound.each_client
           (taken_client rack place os id old p far (sound.each_client id old at))
           (λ j x other h. taken_others rack place os id j x old p far other h);
@@ -299,7 +299,7 @@ client_run rack before place events over cs ss ws items os os' post p id client 
     let sound2 : IsSound (world_of rack place (slice_set cs id new) ss ws items os') =
     subst (λ xs. IsSound (world_of rack place (slice_set cs id new) ss ws items xs)) (sym os_is)
     (subst (λ (x : Client). IsSound (world_of rack place (slice_set cs id x) ss ws items
-    (answered_after place id step.did os))) (sym is) sound1) in
+    (answered_after [] place id step.did os))) (sym is) sound1) in
     kept_run rack before place events over cs (slice_set cs id new) ss ss ws ws items os os' post
     run
     live limited

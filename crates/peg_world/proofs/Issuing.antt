@@ -23,8 +23,8 @@ use Rattle.peg_model.specs.World.{World, Operation, issues, new_op, issue_said, 
 use Rattle.peg_model.specs.World.{reports}
 use Rattle.peg_model.specs.World.{with_client}
 use Rattle.peg_world.specs.Sound.{IsSound, IsClient, world_of, IsFlown}
-use Rattle.peg_world.specs.Kept.{IsFresh}
-use Rattle.peg_world.specs.After.{issued_after}
+use Rattle.peg_ledger.specs.Kept.{IsFresh}
+use Rattle.peg_ledger.specs.After.{issued_after}
 use Rattle.peg_world.specs.Sends.{numbers_of}
 use Rattle.peg_packet.specs.Outbox.{Outbox}
 use Rattle.peg_world.specs.Sound.{IsRun}

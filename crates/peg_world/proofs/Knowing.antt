@@ -15,7 +15,7 @@ use Rattle.peg_event.specs.declared.Pending.{Pending}
 use Rattle.peg_model.specs.Client.{Client}
 use Rattle.peg_model.specs.World.{Operation, is_named, changed_at, answered_as, stamped_as, new_op}
 use Rattle.peg_world.specs.Sound.{IsKnown, is_pending, Each}
-use Rattle.peg_world.specs.Kept.{IsOpen}
+use Rattle.peg_ledger.specs.Kept.{IsOpen}
 
 -- ---- lists
 

@@ -1,5 +1,4 @@
 mod Flights
-mod Keeping
 mod Nodes
 mod Flying
 mod Sends

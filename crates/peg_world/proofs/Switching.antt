@@ -27,7 +27,7 @@ use Rattle.peg_world.specs.Sound.{IsSound, IsRun, IsClient, IsSwitch, world_of, 
 use Rattle.peg_world.specs.Sound.{is_sent_so_far}
 use Rattle.peg_world.specs.Sends.{numbers_of}
 use Rattle.peg_world.specs.Steps.{FineSwitch}
-use Rattle.peg_world.specs.After.{stamped_by, stamped_after}
+use Rattle.peg_ledger.specs.After.{stamped_by, stamped_after}
 use Rattle.peg_world.proofs.Flying.{Reads, reports_of}
 use Rattle.peg_world.proofs.Handing.{packet_at}
 use Rattle.peg_world.proofs.Knowing.{each_set, each_weaker, issued_later, issued_stamped}

@@ -16,13 +16,13 @@ ghost use Rattle.peg_history.specs.Groups.{key_orders};
 ghost use Rattle.peg_world.specs.Running.{Running, started, stepped, is_past, is_event_so_far};
 ghost use Rattle.peg_world.specs.Running.{Halted, Ends, at_place};
 
-use operations::Operations;
 use packets::Packets;
 use peg_client::Client;
 pub use peg_event::{Event, Line};
 use peg_event::{Ask, Said};
 use peg_grammar::reads_back_what_is_spelled;
 use peg_history::{History, KeyOrder};
+use peg_ledger::Operations;
 use peg_name::{ClientId, Config, Content, Key, Node, OutOfMemory, ServerId, SwitchId};
 use peg_packet::Post;
 use peg_server::Server;
@@ -32,12 +32,13 @@ use sending::send;
 use std::alloc::Global;
 use std::marker::Model;
 use thiserror::Error;
+use unfenced::Unfenced;
 
 mod making;
-mod operations;
 mod packets;
 mod saying;
 mod sending;
+mod unfenced;
 
 /// Why a world stops.
 #[derive(Clone, Copy, Debug, PartialEq, Eq, Error)]
@@ -75,6 +76,7 @@ pub struct World {
     post: Post,
     packets: Packets,
     operations: Operations,
+    unfenced: Unfenced,
 }
 
 impl Model for World {
@@ -116,6 +118,7 @@ impl World {
             post: Post::make(alloc, config.format(), 64)?,
             packets: Packets::make(alloc),
             operations: Operations::make(alloc),
+            unfenced: Unfenced::make(alloc),
         })
     }
 
@@ -350,7 +353,8 @@ impl World {
     {
         let (_to, bytes) = self.packets.item(number as usize);
         let did = self.clients[id.0 as usize].step(bytes);
-        self.operations.take_answer(id, place, &did);
+        self.unfenced
+            .take_answer(&mut self.operations, id, place, &did);
         self.place = place;
         self.events += 1;
         Ok(Line {

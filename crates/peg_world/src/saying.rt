@@ -3,7 +3,7 @@ ghost use Rattle.std.specs.Prelude.{◌≡◌};
 ghost use Rattle.peg_model.specs.World.{new_op, issue_said, resend_said, give_up_said};
 ghost use Rattle.peg_event.specs.declared.Issue.TheVariants as issue;
 ghost use Rattle.peg_model.specs.Reading.{packet_of};
-ghost use Rattle.peg_world.specs.After.{stamped_of};
+ghost use Rattle.peg_ledger.specs.After.{stamped_of};
 
 use peg_event::{Act, Ask, Issue, Op, Said, SwitchDid};
 use peg_name::{ClientId, Content, Key, Seq, Version};

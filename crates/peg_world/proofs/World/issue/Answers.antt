@@ -6,8 +6,8 @@ use Rattle.peg_event.specs.declared.Op.{Op}
 use Rattle.peg_model.specs.Client.{begin_operation}
 use Rattle.peg_model.specs.World.{new_op}
 use Rattle.peg_model.specs.Datagrams.{are_packets}
-use Rattle.peg_world.specs.Kept.{IsFresh}
-use Rattle.peg_world.specs.After.{issued_after}
+use Rattle.peg_ledger.specs.Kept.{IsFresh}
+use Rattle.peg_ledger.specs.After.{issued_after}
 use Rattle.peg_world.specs.Running.{Running}
 use Rattle.peg_world.proofs.Issuing.{issue_fresh, issued_run, issued_ends}
 use Rattle.peg_world.proofs.Moving.{Moved}

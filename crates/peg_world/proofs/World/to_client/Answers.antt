@@ -10,8 +10,8 @@ use Rattle.peg_event.specs.declared.ClientDid.{ClientDid}
 use Rattle.peg_model.specs.Words.{Step}
 use Rattle.peg_model.specs.Packet.{Packet}
 use Rattle.peg_model.specs.Client.{Client, client_step}
-use Rattle.peg_world.specs.After.{answered_number}
-use Rattle.peg_world.specs.Kept.{IsOpen}
+use Rattle.peg_ledger.specs.After.{answered_number}
+use Rattle.peg_ledger.specs.Kept.{IsOpen}
 use Rattle.peg_world.specs.Running.{Running}
 use Rattle.peg_world.specs.Sound.{packet_in}
 use Rattle.peg_world.proofs.Handing.{flown_at, goes_to, is_far, client_in, client_reads}
@@ -82,7 +82,7 @@ invariant_of-self c =
     c.step-did.ensures.after ∙ ap (λ (s : Step Client (Node × Packet) ClientDid). s.state) reads in
     client_run rack inside.place c.args.place inside.events inside.is_over inside.clients.items
     inside.servers.items inside.switches.items inside.packets.items inside.operations.operations
-    c.take_answer.new.self.operations inside.post p id c.args.id old c.step-did.new.self
+    c.take_answer.new.operations.operations inside.post p id c.args.id old c.step-did.new.self
     c.step-did.result c.self.invariant live
     (omega (arith, c.requires.few, ap (λ (r : Running). r.events) c.self.view_is))
     (omega (arith, c.requires.later, ap (λ (r : Running). r.world.place) c.self.view_is))
@@ -120,7 +120,7 @@ returns c =
     let ends =
     client_ends rack inside.place c.args.place inside.events inside.is_over inside.clients.items
     inside.servers.items inside.switches.items inside.packets.items inside.operations.operations
-    c.take_answer.new.self.operations c.args.number c.args.pick item id c.args.id old
+    c.take_answer.new.operations.operations c.args.number c.args.pick item id c.args.id old
     c.step-did.new.self c.args.self.now c.step-did.result c.self.view_is live c.self.invariant.few
     c.item-to.ensures to c.id.view_is at is.named far after answered c.take_answer.ensures in
     record { ends = ends; at = refl; rack = ap (λ (r : Running). r.world.rack) c.self.view_is }

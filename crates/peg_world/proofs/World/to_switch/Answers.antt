@@ -10,7 +10,7 @@ use Rattle.peg_model.specs.Packet.{Packet}
 use Rattle.peg_model.specs.Switch.{SwitchStep, switch_step}
 use Rattle.peg_model.specs.Datagrams.{are_packets, switch_on_bytes}
 use Rattle.peg_packet.specs.Outbox.{posted}
-use Rattle.peg_world.specs.After.{stamped_of, stamped_by, stamped_after}
+use Rattle.peg_ledger.specs.After.{stamped_of, stamped_by, stamped_after}
 use Rattle.peg_event.specs.declared.Line.{Line}
 use Rattle.peg_model.specs.World.{World, delivers_item}
 use Rattle.peg_world.specs.Running.{Running, at_place}

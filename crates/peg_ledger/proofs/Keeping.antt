@@ -9,14 +9,14 @@ use Rattle.std.proofs.lemmas.Bool.Decides.{nat_tests}
 use Rattle.std.proofs.lemmas.List.Quantifiers.{position-Some}
 use Rattle.peg_event.specs.declared.Op.{Op}
 use Rattle.peg_model.specs.World.{Operation, is_named, changed_at, answered_as, stamped_as}
-use Rattle.peg_model.specs.World.{with_answer}
+use Rattle.peg_model.specs.World.{with_answer, AppliedFence, origin_of}
 use Rattle.peg_name.specs.declared.Content.{Content}
 use Rattle.std.specs.Prelude.{is_none, is_some}
 use Rattle.std.proofs.lemmas.List.{length-set}
 use Rattle.std.proofs.lemmas.Map.Keys.{IsDistinct-head, IsDistinct-tail}
 use Rattle.peg_history.specs.Groups.{key_orders}
-use Rattle.peg_world.specs.declared.operations.Name.{Name}
-use Rattle.peg_world.specs.Kept.{operations_of, are_named, is_name, same_name, AreOf, IsOpen}
+use Rattle.peg_ledger.specs.declared.operations.Name.{Name}
+use Rattle.peg_ledger.specs.Kept.{operations_of, are_named, is_name, same_name, AreOf, IsOpen}
 
 -- ---- one by one
 
@@ -368,42 +368,44 @@ from_if_some None P op h e = absurd cc
 from_if_some (Some x) P op h e = subst P (some_op x op e) h
 
 pub answered_to :
-    (ops ops' : List Op) (names : List Name) (tags : List ℕ) (i client seq : ℕ)
-    → (place version : ℕ) (content : Content)
+    (fences : List AppliedFence) (ops ops' : List Op) (names : List Name) (tags : List ℕ)
+    → (i client seq place version tag : ℕ) (content : Content) (op : Op)
     → AreOf ops names tags → position (is_name client seq) names ≡ Some i
+    → Some op ≡ slice_get ops i → tag ≡ origin_of fences op.key version
     → IfSome (slice_get ops i) (λ op. ops' ≡ slice_set ops i (with_answer place content op))
-    → operations_of ops' names (slice_set tags i version)
-    ≡ changed_at client seq (answered_as [] place version content) (operations_of ops names tags)
-answered_to ops ops' names tags i client seq place version content are found set =
+    → operations_of ops' names (slice_set tags i tag)
+    ≡ changed_at client seq (answered_as fences place version content)
+    (operations_of ops names tags)
+answered_to fences ops ops' names tags i client seq place version tag content op are found this
+    goes set =
     let at = found_at client seq names i found in
-    let this = op_at ops i (in_ops ops names tags i are (within_at client seq i names at)) in
-    let op = this.0 in
-    ap (λ os. operations_of os names (slice_set tags i version))
+    ap (λ t. operations_of ops' names (slice_set tags i t)) goes
+    ∙ ap (λ os. operations_of os names (slice_set tags i (origin_of fences op.key version)))
     (from_if_some (slice_get ops i) (λ op. ops' ≡ slice_set ops i (with_answer place content op))
-    op set this.1)
-    ∙ sym (changed_one client seq i (answered_as [] place version content) op
-    (with_answer place content op) version (λ q t. refl) ops names tags are.named are.tagged
-    are.distinct at this.1)
+    op set (sym this))
+    ∙ sym (changed_one client seq i (answered_as fences place version content) op
+    (with_answer place content op) (origin_of fences op.key version) (λ q t. refl) ops names tags
+    are.named are.tagged are.distinct at (sym this))
 
 pub are_answered :
     (ops ops' : List Op) (names : List Name) (tags : List ℕ) (i client seq : ℕ)
-    → (place version : ℕ) (content : Content)
+    → (place tag : ℕ) (content : Content)
     → AreOf ops names tags → position (is_name client seq) names ≡ Some i
     → IfSome (slice_get ops i) (λ op. ops' ≡ slice_set ops i (with_answer place content op))
-    → AreOf ops' names (slice_set tags i version)
-are_answered ops ops' names tags i client seq place version content are found set =
+    → AreOf ops' names (slice_set tags i tag)
+are_answered ops ops' names tags i client seq place tag content are found set =
     let at = found_at client seq names i found in
     let this = op_at ops i (in_ops ops names tags i are (within_at client seq i names at)) in
     let op = this.0 in
     let new = with_answer place content op in
-    let are_set : AreOf (slice_set ops i new) names (slice_set tags i version) =
+    let are_set : AreOf (slice_set ops i new) names (slice_set tags i tag) =
     record {
       named = named_set op new i ops names are.named this.1 refl;
-      tagged = length-set tags i version ∙ are.tagged ∙ sym (length-set ops i new);
+      tagged = length-set tags i tag ∙ are.tagged ∙ sym (length-set ops i new);
       distinct = are.distinct;
       few = subst (λ n. n ≤ 4000000000) (sym (length-set ops i new)) are.few;
     } in
-    subst (λ os. AreOf os names (slice_set tags i version))
+    subst (λ os. AreOf os names (slice_set tags i tag))
     (sym (from_if_some (slice_get ops i)
     (λ op. ops' ≡ slice_set ops i (with_answer place content op)) op set this.1)) are_set
 

@@ -12,7 +12,7 @@ use Rattle.peg_event.specs.declared.Op.{Op}
 use Rattle.peg_event.specs.declared.Issue.{Issue}
 use Rattle.peg_event.specs.declared.Issue.TheVariants as issue
 use Rattle.peg_model.specs.World.{Operation, is_named}
-use Rattle.peg_world.specs.declared.operations.Name.{Name}
+use Rattle.peg_ledger.specs.declared.operations.Name.{Name}
 
 pub record Kept : Type 0 where
   pub operations : List Operation

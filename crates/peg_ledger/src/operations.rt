@@ -4,10 +4,11 @@ ghost use Rattle.std.specs.Prelude.{OnOk, IsOk, IfOk, IfSome};
 ghost use Rattle.std.specs.List.{list_any};
 ghost use Rattle.peg_model.specs.World.{is_named, changed_at, answered_as, stamped_as};
 ghost use Rattle.peg_history.specs.Groups.{key_orders};
-ghost use Rattle.peg_world.specs.Kept.{IsOpen, IsFresh};
-ghost use Rattle.peg_world.specs.After.{issued_after, answered_after, answered_number};
-ghost use Rattle.peg_world.specs.After.{stamped_after};
+ghost use Rattle.peg_ledger.specs.Kept.{IsOpen, IsFresh};
+ghost use Rattle.peg_ledger.specs.After.{issued_after, answered_after, answered_number};
+ghost use Rattle.peg_ledger.specs.After.{stamped_after};
 
+use crate::Fences;
 use indexmap::IndexSet;
 use peg_event::{ClientDid, Issue, Op};
 use peg_history::{History, KeyOrder, orders_of};
@@ -41,7 +42,7 @@ impl Hash for Name {
 
 /// The operations of a run, each with its name and its tag. They are found by their names.
 #[derive(Drop)]
-pub(crate) struct Operations {
+pub struct Operations {
     history: History,
     names: IndexSet<Name>,
     tags: Vec<Version>,
@@ -50,7 +51,7 @@ pub(crate) struct Operations {
 impl Model for Operations {
     ghost use Rattle.std.specs.Prelude.{◌-◌, min, vec_len, vec_capacity};
     ghost use Rattle.indexmap.specs.IndexSet.{spare};
-    ghost use Rattle.peg_world.specs.Kept.{Kept, operations_of, AreOf};
+    ghost use Rattle.peg_ledger.specs.Kept.{Kept, operations_of, AreOf};
 
     ghost Value = { Kept };
 
@@ -64,7 +65,7 @@ impl Model for Operations {
 
 impl Operations {
     /// No operation.
-    pub(crate) fn make(alloc: Global) -> Operations
+    pub fn make(alloc: Global) -> Operations
         ensures { result.operations ≡ [] }
     {
         Operations {
@@ -75,7 +76,7 @@ impl Operations {
     }
 
     /// Makes room for one more operation.
-    pub(crate) fn reserve(&mut self) -> Result<(), OutOfMemory>
+    pub fn reserve(&mut self) -> Result<(), OutOfMemory>
         ensures same { self.new.operations ≡ self.old.operations }
         ensures room { OnOk result (1 ≤ self.new.spare) }
     {
@@ -102,16 +103,26 @@ impl Operations {
         Ok(())
     }
 
-    /// Answers the operation of a name at a place of the schedule, and gives it its tag.
+    /// Answers the operation of a name at a place of the schedule, and gives it the origin of the
+    /// version as its tag.
     #[tactic(auto, using(crate::proofs::Keeping::in_ops, crate::proofs::Keeping::in_tags, crate::proofs::Keeping::in_numbers, crate::proofs::Keeping::is_unanswered, crate::proofs::Keeping::is_earlier, crate::proofs::Keeping::answered_to, crate::proofs::Keeping::are_answered, crate::proofs::Keeping::none_changed, crate::proofs::Keeping::names_length))]
-    fn answer(&mut self, client: ClientId, seq: Seq, place: u64, version: Version, content: Content)
+    fn answer(
+        &mut self,
+        fences: &Fences,
+        client: ClientId,
+        seq: Seq,
+        place: u64,
+        version: Version,
+        content: Content,
+    )
         requires { IsOpen client seq place self.old.operations }
         ensures { self.new.operations ≡ changed_at client seq
-            (answered_as [] place version content) self.old.operations }
+            (answered_as fences.now.fences place version content) self.old.operations }
     {
         if let Some(index) = self.names.get_index_of(&Name { client, seq }) {
+            let op = self.history.op(index as u32);
             self.history.answer(index as u32, place, content);
-            self.tags[index] = version;
+            self.tags[index] = fences.origin_of(&op.key, version);
         }
     }
 
@@ -129,7 +140,7 @@ impl Operations {
     }
 
     /// Adds an operation as it begins, where it was sent. It succeeds where there is room.
-    pub(crate) fn take_issue(&mut self, op: Op, issue: &Issue) -> Result<(), OutOfMemory>
+    pub fn take_issue(&mut self, op: Op, issue: &Issue) -> Result<(), OutOfMemory>
         requires few { length self.old.operations < 4000000000 }
         requires room { 1 ≤ self.old.spare }
         requires fresh { IsFresh op.client issue.now self.old.operations }
@@ -144,27 +155,27 @@ impl Operations {
     }
 
     /// Answers the operation that a client took a reply to at a place of the schedule.
-    pub(crate) fn take_answer(&mut self, client: ClientId, place: u64, did: &ClientDid)
+    pub fn take_answer(&mut self, fences: &Fences, client: ClientId, place: u64, did: &ClientDid)
         requires { IfSome (answered_number did.now)
             (λ seq. IsOpen client seq place self.old.operations) }
         ensures { self.new.operations
-            ≡ answered_after place client did.now self.old.operations }
+            ≡ answered_after fences.now.fences place client did.now self.old.operations }
     {
         match did {
             ClientDid::Wrote { seq, version } => {
-                self.answer(client, *seq, place, *version, Content::Absent);
+                self.answer(fences, client, *seq, place, *version, Content::Absent);
             }
             ClientDid::Read {
                 seq,
                 version,
                 content,
-            } => self.answer(client, *seq, place, *version, *content),
+            } => self.answer(fences, client, *seq, place, *version, *content),
             ClientDid::Moved { .. } | ClientDid::Ignored => {}
         }
     }
 
     /// Gives the operation of a write that was stamped its version.
-    pub(crate) fn take_stamp(&mut self, stamped: Option<(ClientId, Seq, Version)>)
+    pub fn take_stamp(&mut self, stamped: Option<(ClientId, Seq, Version)>)
         ensures { self.new.operations ≡ stamped_after stamped self.old.operations }
     {
         if let Some((client, seq, version)) = stamped {
@@ -174,7 +185,7 @@ impl Operations {
 
     /// How many operations there are.
     #[tactic(auto, using(crate::proofs::Keeping::length_of))]
-    pub(crate) fn len(&self) -> u32
+    pub fn len(&self) -> u32
         ensures { result ≡ length self.now.operations }
     {
         self.history.len()
@@ -182,7 +193,7 @@ impl Operations {
 
     /// The history.
     #[tactic(auto, using(crate::proofs::Keeping::ops_of))]
-    pub(crate) fn history(&self) -> &History
+    pub fn history(&self) -> &History
         ensures { result.now.ops ≡ map (λ o. o.op) self.now.operations }
     {
         &self.history
@@ -190,7 +201,7 @@ impl Operations {
 
     /// The order of each key, in the order of first issue.
     #[tactic(auto, using(crate::proofs::Keeping::orders_kept))]
-    pub(crate) fn orders(&self, alloc: Global) -> Result<Vec<KeyOrder>, OutOfMemory>
+    pub fn orders(&self, alloc: Global) -> Result<Vec<KeyOrder>, OutOfMemory>
         ensures { IfOk result (λ orders. orders.items
             ≡ key_orders (map (λ o. o.op) self.now.operations)
             (map (λ o. o.tag) self.now.operations)) }

@@ -1,8 +1,8 @@
 use Rattle.std.proofs.Common.{◌∙◌, sym, ap}
 use Rattle.peg_model.specs.World.{changed_at, stamped_as}
-use Rattle.peg_world.specs.Kept.{Kept}
-use Rattle.peg_world.proofs.Keeping.{answered_stays}
-use Rattle.peg_world.proofs.operations.Operations.stamp.Goals as goal
+use Rattle.peg_ledger.specs.Kept.{Kept}
+use Rattle.peg_ledger.proofs.Keeping.{answered_stays}
+use Rattle.peg_ledger.proofs.operations.Operations.stamp.Goals as goal
 
 -- src/operations.rt:124:5
 pub returns-else-is_none : goal.returns-else-is_none
