@@ -3,3 +3,4 @@ pub mod Sending
 pub mod Kept
 pub mod Stepping
 pub mod Planning
+pub mod Nodes

@@ -106,7 +106,7 @@ room_left post now rack c o is same room =
     (length_announced c.rack c o) in
     omega (arith, slots, items, few)
 
-all_sent :
+pub all_sent :
     (c now : Controller) (command : Command) (o : Outcome) → now ≡ (takes c.rack c command o).state
     → announced now.rack now o ++ pending_packets now ≡ (takes c.rack c command o).sent
 all_sent c now command o is =

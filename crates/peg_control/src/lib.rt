@@ -9,6 +9,7 @@ ghost use Rattle.peg_model.specs.Packet.{in_range};
 ghost use Rattle.peg_model.specs.Controller.{new_controller, order_command, retry_command, survey};
 ghost use Rattle.peg_model.specs.Controller.{make_plan, controller_step, no_such, is_handover_to};
 ghost use Rattle.peg_model.specs.Datagrams.{controller_on_bytes, are_packets};
+ghost use Rattle.peg_packet.specs.Nodes.{are_in_rack};
 ghost use Rattle.peg_packet.specs.Seen.{seen};
 ghost use Rattle.peg_packet.specs.Outbox.{posted};
 
@@ -33,7 +34,8 @@ mod tests;
 
 /// What a controller knows of its rack: the active switch and its epoch, the listed keys and the
 /// last report; and the commands that it orders. Its room is taken when it is made, so no later
-/// call takes memory.
+/// call takes memory. Each packet that it sends goes to a node of the rack, and each switch that it
+/// announces is one of the rack.
 #[derive(Drop)]
 pub struct Controller {
     config: Config,
@@ -125,8 +127,45 @@ impl Controller {
 }
 
 impl Controller {
-    /// Orders the key to be listed. `Busy` where a command is pending, else `Spent` where no number
-    /// is left: the last one is then 18446744073709551614. Then nothing changes.
+    /// Orders a command: it gets the next number and goes to the active switch, one packet at most.
+    /// `Busy` where a command is pending, else `Spent` where no number is left: the last one is then
+    /// 18446744073709551614; else `NoSuch` where the rack hasn't the server of a copy or the switch
+    /// of a handover, and else `SameSwitch` where a handover is to the active switch. Then nothing
+    /// changes.
+    #[tactic(auto, using(crate::proofs::Nodes::few_ordered))]
+    pub fn order(&mut self, command: &Command, post: &mut Post) -> Order
+        requires format { post.old.format ≡ self.old.rack.format }
+        requires room { length post.old.items < post.old.slots }
+        ensures answer { result ≡ (order_command self.old command.now).did }
+        ensures after { self.new ≡ (order_command self.old command.now).state }
+        ensures sent { post.new ≡ posted post.old (order_command self.old command.now).sent }
+        ensures packets { are_packets self.old.rack.format
+            (order_command self.old command.now).sent ≡ true }
+        ensures nodes { are_in_rack self.old.rack (order_command self.old command.now).sent ≡ true }
+        ensures few { length (order_command self.old command.now).sent ≤ 1 }
+        ensures rack { self.new.rack ≡ self.old.rack }
+    {
+        let last = self.orders.last();
+        if self.orders.is_pending() {
+            return Order::Busy { pending: last };
+        }
+        if last == u64::MAX - 1 {
+            return Order::Spent { last };
+        }
+        if let Some(target) = no_such(&self.config, command) {
+            return Order::NoSuch { target };
+        }
+        if is_handover_to(self.switch, command) {
+            return Order::SameSwitch {
+                switch: self.switch,
+            };
+        }
+        self.orders.begin(command);
+        self.send(command, post);
+        Order::Sent { number: last + 1 }
+    }
+
+    /// Orders `Command::Promote`, as `order` does: the key is to be listed.
     pub fn promote(&mut self, key: &Key, post: &mut Post) -> Order
         requires format { post.old.format ≡ self.old.rack.format }
         requires room { length post.old.items < post.old.slots }
@@ -136,11 +175,15 @@ impl Controller {
             (order_command self.old (command.Promote key.now)).sent }
         ensures packets { are_packets self.old.rack.format
             (order_command self.old (command.Promote key.now)).sent ≡ true }
+        ensures nodes { are_in_rack self.old.rack
+            (order_command self.old (command.Promote key.now)).sent ≡ true }
+        ensures few { length (order_command self.old (command.Promote key.now)).sent ≤ 1 }
+        ensures rack { self.new.rack ≡ self.old.rack }
     {
         self.order(&Command::Promote { key: *key }, post)
     }
 
-    /// Orders the key's entry to be marked. It is refused as a promotion is.
+    /// Orders `Command::Demote`, as `order` does: the key's entry is to be marked.
     pub fn demote(&mut self, key: &Key, post: &mut Post) -> Order
         requires format { post.old.format ≡ self.old.rack.format }
         requires room { length post.old.items < post.old.slots }
@@ -150,12 +193,16 @@ impl Controller {
             (order_command self.old (command.Demote key.now)).sent }
         ensures packets { are_packets self.old.rack.format
             (order_command self.old (command.Demote key.now)).sent ≡ true }
+        ensures nodes { are_in_rack self.old.rack
+            (order_command self.old (command.Demote key.now)).sent ≡ true }
+        ensures few { length (order_command self.old (command.Demote key.now)).sent ≤ 1 }
+        ensures rack { self.new.rack ≡ self.old.rack }
     {
         self.order(&Command::Demote { key: *key }, post)
     }
 
-    /// Orders the key to be copied to a server. It is refused as a promotion is, and then is
-    /// `NoSuch` where the rack hasn't that server.
+    /// Orders `Command::Copy`, as `order` does: the key is to be copied to a server. It is `NoSuch`
+    /// where the rack hasn't that server.
     pub fn copy(&mut self, key: &Key, target: u8, post: &mut Post) -> Order
         requires format { post.old.format ≡ self.old.rack.format }
         requires room { length post.old.items < post.old.slots }
@@ -165,13 +212,17 @@ impl Controller {
             (order_command self.old (command.Copy key.now target)).sent }
         ensures packets { are_packets self.old.rack.format
             (order_command self.old (command.Copy key.now target)).sent ≡ true }
+        ensures nodes { are_in_rack self.old.rack
+            (order_command self.old (command.Copy key.now target)).sent ≡ true }
+        ensures few { length (order_command self.old (command.Copy key.now target)).sent ≤ 1 }
+        ensures rack { self.new.rack ≡ self.old.rack }
     {
         let target = ServerId(target);
         self.order(&Command::Copy { key: *key, target }, post)
     }
 
-    /// Orders the key's home to hold the content at the version of the key's promotion. It is
-    /// refused as a promotion is.
+    /// Orders `Command::Fence`, as `order` does: the key's home is to hold the content at the version
+    /// of the key's promotion.
     pub fn fence(&mut self, key: &Key, post: &mut Post) -> Order
         requires format { post.old.format ≡ self.old.rack.format }
         requires room { length post.old.items < post.old.slots }
@@ -181,12 +232,16 @@ impl Controller {
             (order_command self.old (command.Fence key.now)).sent }
         ensures packets { are_packets self.old.rack.format
             (order_command self.old (command.Fence key.now)).sent ≡ true }
+        ensures nodes { are_in_rack self.old.rack
+            (order_command self.old (command.Fence key.now)).sent ≡ true }
+        ensures few { length (order_command self.old (command.Fence key.now)).sent ≤ 1 }
+        ensures rack { self.new.rack ≡ self.old.rack }
     {
         self.order(&Command::Fence { key: *key }, post)
     }
 
-    /// Orders the active switch to hand its state over to another. It is refused as a promotion
-    /// is, and then is `NoSuch` where the rack hasn't that switch, and `SameSwitch` where it is the
+    /// Orders `Command::Handover`, as `order` does: the active switch is to hand its state over to
+    /// another. It is `NoSuch` where the rack hasn't that switch, and `SameSwitch` where it is the
     /// active one.
     pub fn handover(&mut self, target: u8, post: &mut Post) -> Order
         requires format { post.old.format ≡ self.old.rack.format }
@@ -197,12 +252,16 @@ impl Controller {
             (order_command self.old (command.Handover target)).sent }
         ensures packets { are_packets self.old.rack.format
             (order_command self.old (command.Handover target)).sent ≡ true }
+        ensures nodes { are_in_rack self.old.rack
+            (order_command self.old (command.Handover target)).sent ≡ true }
+        ensures few { length (order_command self.old (command.Handover target)).sent ≤ 1 }
+        ensures rack { self.new.rack ≡ self.old.rack }
     {
         let target = SwitchId(target);
         self.order(&Command::Handover { target }, post)
     }
 
-    /// Orders the active switch to empty its counts. It is refused as a promotion is.
+    /// Orders `Command::Clear`, as `order` does: the active switch is to empty its counts.
     pub fn clear(&mut self, post: &mut Post) -> Order
         requires format { post.old.format ≡ self.old.rack.format }
         requires room { length post.old.items < post.old.slots }
@@ -211,14 +270,19 @@ impl Controller {
         ensures sent { post.new ≡ posted post.old (order_command self.old command.Clear).sent }
         ensures packets { are_packets self.old.rack.format
             (order_command self.old command.Clear).sent ≡ true }
+        ensures nodes { are_in_rack self.old.rack
+            (order_command self.old command.Clear).sent ≡ true }
+        ensures few { length (order_command self.old command.Clear).sent ≤ 1 }
+        ensures rack { self.new.rack ≡ self.old.rack }
     {
         self.order(&Command::Clear, post)
     }
 }
 
 impl Controller {
-    /// Sends the pending command again; where none is pending, tells every client again which
-    /// switch is the active one.
+    /// Sends the pending command again; where none is pending, tells every client of the rack again
+    /// which switch is the active one.
+    #[tactic(auto, using(crate::proofs::Nodes::few_retried))]
     pub fn retry(&mut self, post: &mut Post) -> Retry
         requires format { post.old.format ≡ self.old.rack.format }
         requires room { length post.old.items + self.old.rack.clients ≤ post.old.slots }
@@ -226,12 +290,15 @@ impl Controller {
         ensures after { self.new ≡ (retry_command self.old).state }
         ensures sent { post.new ≡ posted post.old (retry_command self.old).sent }
         ensures packets { are_packets self.old.rack.format (retry_command self.old).sent ≡ true }
+        ensures nodes { are_in_rack self.old.rack (retry_command self.old).sent ≡ true }
+        ensures few { length (retry_command self.old).sent ≤ self.old.rack.clients }
+        ensures rack { self.new.rack ≡ self.old.rack }
     {
+        prove!(self.config.clients() >= 1);
         let Some(command) = self.orders.pending() else {
             self.announce(post);
             return Retry::Announced { epoch: self.epoch };
         };
-        prove!(self.config.clients() >= 1);
         self.send(&command, post);
         Retry::Command {
             number: self.orders.last(),
@@ -246,6 +313,9 @@ impl Controller {
         ensures after { self.new ≡ (survey self.old).state }
         ensures sent { post.new ≡ posted post.old (survey self.old).sent }
         ensures packets { are_packets self.old.rack.format (survey self.old).sent ≡ true }
+        ensures nodes { are_in_rack self.old.rack (survey self.old).sent ≡ true }
+        ensures few { length (survey self.old).sent ≤ 1 }
+        ensures rack { self.new.rack ≡ self.old.rack }
     {
         let packets = [Packet::Survey];
         post.put(Node::Switch(self.switch), &packets[0]);
@@ -257,6 +327,7 @@ impl Controller {
     /// the others wait for its acknowledgement. `Busy` where a command is pending, else `Spent`
     /// where fewer than 64 numbers are left, else `NoReport` where none was taken; then nothing
     /// changes.
+    #[tactic(auto, using(crate::proofs::Nodes::few_planned))]
     pub fn plan(&mut self, promote_at: u64, demote_below: u64, post: &mut Post) -> Plan
         requires format { post.old.format ≡ self.old.rack.format }
         requires room { length post.old.items < post.old.slots }
@@ -266,6 +337,10 @@ impl Controller {
             (make_plan self.old promote_at demote_below).sent }
         ensures packets { are_packets self.old.rack.format
             (make_plan self.old promote_at demote_below).sent ≡ true }
+        ensures nodes { are_in_rack self.old.rack
+            (make_plan self.old promote_at demote_below).sent ≡ true }
+        ensures few { length (make_plan self.old promote_at demote_below).sent ≤ 1 }
+        ensures rack { self.new.rack ≡ self.old.rack }
     {
         let last = self.orders.last();
         if self.orders.is_pending() {
@@ -296,13 +371,14 @@ impl Controller {
 
 impl Controller {
     /// Takes any bytes. An acknowledgement of the pending command ends that one, and the next one
-    /// that waits is sent; a handover that is done is announced to every client first. A report
-    /// takes the place of the last one. It is `Malformed` where no packet is spelled by the bytes;
+    /// that waits is sent; a handover that is done is announced to every client first. Each packet
+    /// goes to a node of the rack, and there is one more than clients at most. A report takes the
+    /// place of the last one. It is `Malformed` where no packet is spelled by the bytes;
     /// `OutOfPlace` where the packet is of the other format or of another kind; `Ignored` where the
     /// number isn't that of the pending command; and `OutOfPlace` where the outcome can't be that of
     /// the pending command, or lists a key where as many are known as the rack lists. Then nothing
     /// changes.
-    #[tactic(auto, unfolding(peg_model::specs::Controller::controller_step))]
+    #[tactic(auto, unfolding(peg_model::specs::Controller::controller_step), using(crate::proofs::Nodes::few_on_bytes))]
     pub fn step(&mut self, bytes: &[u8], post: &mut Post) -> ControlDid
         requires format { post.old.format ≡ self.old.rack.format }
         requires room { length post.old.items + self.old.rack.clients < post.old.slots }
@@ -311,6 +387,11 @@ impl Controller {
         ensures sent { post.new ≡ posted post.old (controller_on_bytes self.old bytes.now).sent }
         ensures packets { are_packets self.old.rack.format
             (controller_on_bytes self.old bytes.now).sent ≡ true }
+        ensures nodes { are_in_rack self.old.rack
+            (controller_on_bytes self.old bytes.now).sent ≡ true }
+        ensures few { length (controller_on_bytes self.old bytes.now).sent
+            ≤ self.old.rack.clients + 1 }
+        ensures rack { self.new.rack ≡ self.old.rack }
     {
         let Some((format, packet)) = decode(bytes) else {
             return ControlDid::Malformed;
@@ -332,6 +413,9 @@ impl Controller {
             (controller_step self.old (seen packet.now)).sent }
         ensures packets { are_packets self.old.rack.format
             (controller_step self.old (seen packet.now)).sent ≡ true }
+        ensures nodes { are_in_rack self.old.rack
+            (controller_step self.old (seen packet.now)).sent ≡ true }
+        ensures rack { self.new.rack ≡ self.old.rack }
     {
         match packet {
             Packet::CommandAck {
@@ -348,39 +432,6 @@ impl Controller {
             }
             _ => ControlDid::OutOfPlace,
         }
-    }
-}
-
-impl Controller {
-    /// Gives a command the next number and sends it to the active switch, or says why not, and
-    /// then nothing changes.
-    fn order(&mut self, command: &Command, post: &mut Post) -> Order
-        requires format { post.old.format ≡ self.old.rack.format }
-        requires room { length post.old.items < post.old.slots }
-        ensures answer { result ≡ (order_command self.old command.now).did }
-        ensures after { self.new ≡ (order_command self.old command.now).state }
-        ensures sent { post.new ≡ posted post.old (order_command self.old command.now).sent }
-        ensures packets { are_packets self.old.rack.format
-            (order_command self.old command.now).sent ≡ true }
-    {
-        let last = self.orders.last();
-        if self.orders.is_pending() {
-            return Order::Busy { pending: last };
-        }
-        if last == u64::MAX - 1 {
-            return Order::Spent { last };
-        }
-        if let Some(target) = no_such(&self.config, command) {
-            return Order::NoSuch { target };
-        }
-        if is_handover_to(self.switch, command) {
-            return Order::SameSwitch {
-                switch: self.switch,
-            };
-        }
-        self.orders.begin(command);
-        self.send(command, post);
-        Order::Sent { number: last + 1 }
     }
 }
 

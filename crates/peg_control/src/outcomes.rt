@@ -5,6 +5,7 @@ ghost use Rattle.std.specs.Prelude.{nat_le};
 ghost use Rattle.peg_model.specs.Controller.{acknowledged, takes, learned, is_strange, is_listed};
 ghost use Rattle.peg_model.specs.Controller.{belongs, what_of};
 ghost use Rattle.peg_model.specs.Datagrams.{are_packets};
+ghost use Rattle.peg_packet.specs.Nodes.{are_in_rack};
 ghost use Rattle.peg_packet.specs.Outbox.{posted};
 ghost use Rattle.peg_control.specs.Fits.{command_fits, most_epoch};
 
@@ -30,6 +31,9 @@ impl Controller {
             (acknowledged self.old.pending self.old.rack self.old number outcome.now).sent }
         ensures packets { are_packets self.old.rack.format
             (acknowledged self.old.pending self.old.rack self.old number outcome.now).sent ≡ true }
+        ensures nodes { are_in_rack self.old.rack
+            (acknowledged self.old.pending self.old.rack self.old number outcome.now).sent ≡ true }
+        ensures rack { self.new.rack ≡ self.old.rack }
     {
         let Some(command) = self.orders.pending() else {
             return ControlDid::Ignored;
@@ -59,6 +63,9 @@ impl Controller {
             (takes self.old.rack self.old command.now outcome.now).sent }
         ensures packets { are_packets self.old.rack.format
             (takes self.old.rack self.old command.now outcome.now).sent ≡ true }
+        ensures nodes { are_in_rack self.old.rack
+            (takes self.old.rack self.old command.now outcome.now).sent ≡ true }
+        ensures rack { self.new.rack ≡ self.old.rack }
     {
         self.move_on(command, outcome);
         self.announce_if_activated(outcome, post);
@@ -70,6 +77,7 @@ impl Controller {
         requires fits { is_strange self.old.rack self.old command.now outcome.now ≡ false }
         ensures after { self.new
             ≡ (takes self.old.rack self.old command.now outcome.now).state }
+        ensures rack { self.new.rack ≡ self.old.rack }
     {
         self.orders.begin_next();
         self.learn(command, outcome);
@@ -84,7 +92,8 @@ impl Controller {
         requires some { 1 ≤ (learned self.old command.now outcome.now).epoch }
         requires epoch { (learned self.old command.now outcome.now).epoch
             ≤ most_epoch self.old.pending self.old.last }
-        ensures { self.new ≡ learned self.old command.now outcome.now }
+        ensures after { self.new ≡ learned self.old command.now outcome.now }
+        ensures rack { self.new.rack ≡ self.old.rack }
     {
         match (command, outcome) {
             (Command::Promote { key }, Outcome::Listed(_)) => self.known.learn(key),

@@ -6,6 +6,7 @@ ghost use Rattle.peg_model.specs.Packet as model;
 ghost use Rattle.peg_model.specs.Packet.{in_range};
 ghost use Rattle.peg_model.specs.Controller.{what_of, command_packet, announces, announced};
 ghost use Rattle.peg_model.specs.Datagrams.{are_packets};
+ghost use Rattle.peg_packet.specs.Nodes.{are_in_rack};
 ghost use Rattle.peg_packet.specs.Seen.{what_seen};
 ghost use Rattle.peg_packet.specs.Outbox.{posted};
 ghost use Rattle.peg_control.specs.Fits.{is_keyed};
@@ -25,6 +26,8 @@ impl Controller {
         ensures sent { post.new ≡ posted post.old (command_packet self.now command.now ∷ []) }
         ensures packets { are_packets self.now.rack.format
             (command_packet self.now command.now ∷ []) ≡ true }
+        ensures nodes { are_in_rack self.now.rack
+            (command_packet self.now command.now ∷ []) ≡ true }
     {
         prove!(self.config.servers() <= 64);
         let packets = [Packet::Command {
@@ -40,6 +43,7 @@ impl Controller {
         requires room { length post.old.items < post.old.slots }
         ensures sent { post.new ≡ posted post.old (pending_packets self.now) }
         ensures packets { are_packets self.now.rack.format (pending_packets self.now) ≡ true }
+        ensures nodes { are_in_rack self.now.rack (pending_packets self.now) ≡ true }
     {
         if let Some(command) = self.orders.pending() {
             self.send(&command, post);
@@ -54,6 +58,8 @@ impl Controller {
             ≡ posted post.old (announces self.now.rack self.now.epoch self.now.switch) }
         ensures packets { are_packets self.now.rack.format
             (announces self.now.rack self.now.epoch self.now.switch) ≡ true }
+        ensures nodes { are_in_rack self.now.rack
+            (announces self.now.rack self.now.epoch self.now.switch) ≡ true }
     {
         prove!(self.config.switches() <= 4);
         prove!(self.orders.last() < u64::MAX);
@@ -66,6 +72,8 @@ impl Controller {
         ensures sent { post.new ≡ posted post.old
             (announced self.now.rack self.now outcome.now) }
         ensures packets { are_packets self.now.rack.format
+            (announced self.now.rack self.now outcome.now) ≡ true }
+        ensures nodes { are_in_rack self.now.rack
             (announced self.now.rack self.now outcome.now) ≡ true }
     {
         if let Outcome::Activated(_) = outcome {

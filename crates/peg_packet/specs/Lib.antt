@@ -4,3 +4,4 @@ pub mod Outbox
 pub mod Puts
 pub mod Posted
 pub mod Family
+pub mod Nodes

@@ -2,7 +2,7 @@
 use Rattle.std.proofs.Common.{◌≡◌, ◌⊎◌, ℕ, Option, Some, None, List, refl, subst, inl, inr}
 use Rattle.peg_model.specs.Trace.{RunText, replay_text}
 use Rattle.peg_io.specs.Outside.{Tells, Rose}
-use Rattle.peg_run.specs.Front.{IsBuilt}
+use Rattle.peg_run.specs.Front.{HasSchedule}
 use Rattle.peg_run.specs.Ends.{WhereTold, IsDone, IsCut, IsUnread, IsAhead, Ended}
 use Rattle.peg_run.specs.Standing.{HasCause}
 use Rattle.peg_run.specs.declared.Status.{Status}
@@ -74,7 +74,7 @@ unread_tells (Some input) (Some rest) held held' unread = tt
 -- a schedule within the limits ends with no other status, where nothing fails
 abbrev pub IsComplete : Status → ℕ → ℕ → ℕ → ℕ → List ℕ → List ℕ → Type 0
 IsComplete s reads reads' writes writes' input rest =
-    IsBuilt input → (Rose reads reads' → ⊥) → (Rose writes writes' → ⊥)
+    HasSchedule input → (Rose reads reads' → ⊥) → (Rose writes writes' → ⊥)
     → (s ≡ status.Done) ⊎ (s ≡ status.OutOfMemory)
 
 pub complete_of :
@@ -83,28 +83,28 @@ pub complete_of :
     → Tells left left' (IsComplete s reads reads' writes writes')
 complete_of left left' held held' status.Done reads reads' writes writes' ended cause =
     Tells_as left left' Whatever (IsComplete status.Done reads reads' writes writes')
-    (λ b n _ built r w. inl refl) (done_tells left left' held held' ended.0)
+    (λ b n _ has r w. inl refl) (done_tells left left' held held' ended.0)
 complete_of left left' held held' status.OutOfMemory reads reads' writes writes' ended cause =
     Tells_as left left' Whatever (IsComplete status.OutOfMemory reads reads' writes writes')
-    (λ b n _ built r w. inr refl) (cut_tells left left' held held' ended)
+    (λ b n _ has r w. inr refl) (cut_tells left left' held held' ended)
 complete_of left left' held held' status.Usage reads reads' writes writes' ended cause =
     absurd ended
 complete_of left left' held held' status.ReadFault reads reads' writes writes' ended cause =
     Tells_as left left' Whatever (IsComplete status.ReadFault reads reads' writes writes')
-    (λ b n _ built r w. absurd (r cause)) (unread_tells left left' held held' ended)
+    (λ b n _ has r w. absurd (r cause)) (unread_tells left left' held held' ended)
 complete_of left left' held held' status.WriteFault reads reads' writes writes' ended cause =
     Tells_as left left' Whatever (IsComplete status.WriteFault reads reads' writes writes')
-    (λ b n _ built r w. absurd (w cause)) (cut_tells left left' held held' ended.0)
+    (λ b n _ has r w. absurd (w cause)) (cut_tells left left' held held' ended.0)
 complete_of left left' held held' status.WireFault reads reads' writes writes' ended cause =
     absurd ended
 complete_of left left' held held' (status.BadInput line) reads reads' writes writes' ended cause =
-    Tells_as left left' (λ input rest. IsBuilt input → ⊥)
+    Tells_as left left' (λ input rest. HasSchedule input → ⊥)
     (IsComplete (status.BadInput line) reads reads' writes writes')
-    (λ b n none built r w. absurd (none built)) ended.2
+    (λ b n none has r w. absurd (none has)) ended.2
 complete_of left left' held held' (status.TooMuch line) reads reads' writes writes' ended cause =
-    Tells_as left left' (λ input rest. IsBuilt input → ⊥)
+    Tells_as left left' (λ input rest. HasSchedule input → ⊥)
     (IsComplete (status.TooMuch line) reads reads' writes writes')
-    (λ b n none built r w. absurd (none built)) ended.2
+    (λ b n none has r w. absurd (none has)) ended.2
 
 -- ---- no other answers
 

@@ -3,7 +3,7 @@ use Rattle.std.proofs.Common.{◌≡◌, ◌≢◌, ◌<◌, ◌≤◌, ◌+◌,
 use Rattle.std.proofs.Common.{false}
 use Rattle.std.proofs.Common.{not, ◌&&◌, List, [], ◌∷◌, ◌++◌, refl, sym, arith, ap, ◌∙◌, rules}
 use Rattle.std.proofs.Common.{subst}
-use Rattle.std.specs.Prelude.{decimal, ◌==◌, if◌then◌else◌, codes, Contains}
+use Rattle.std.specs.Prelude.{decimal, ◌==◌, if◌then◌else◌, codes, Contains, flat_map}
 use Rattle.std.specs.List.{list_all, AllByRecursion}
 use Rattle.std.specs.Str.{all_ascii_digits}
 use Rattle.std.proofs.lemmas.Str.Parse.{IsNumeralModel, numerals_by_fold, tells_all_ascii_digits}
@@ -14,13 +14,14 @@ use Rattle.peg_name.specs.Limits.{is_between}
 use Rattle.peg_name.specs.Name.{Rack, InLimits, servers_most, clients_most}
 use Rattle.peg_name.specs.declared.Format.{Format}
 use Rattle.peg_name.specs.declared.Format.TheVariants.{One, Two}
+use Rattle.peg_name.specs.declared.Node.{Node}
+use Rattle.peg_name.specs.declared.Node.TheVariants as node
 use Rattle.peg_event.specs.declared.Event.{Event}
 use Rattle.peg_event.specs.declared.Event.TheVariants as event
-use Rattle.peg_model.specs.Text.{hex_digit, key_word, plain_or_escaped}
+use Rattle.peg_model.specs.Text.{hex_digit, key_word, plain_or_escaped, hex_word}
 use Rattle.peg_model.specs.Schedule.{IsRackLine, IsEventLine, rack_line, event_lines, format_words}
-use Rattle.peg_model.specs.Schedule.{EventInRack, EventInRange}
+use Rattle.peg_model.specs.Schedule.{EventInRack, EventInRange, NodeInRack, node_words}
 use Rattle.peg_io.specs.Lines.{HasNoFeed, line_of, past_line}
-use Rattle.peg_world.specs.Running.{is_event_so_far}
 
 abbrev pub is_plain : List ℕ → Bool
 is_plain w = list_all (λ b. not (b == 10)) w
@@ -84,6 +85,14 @@ key_plain (b ∷ bytes) =
     plain_more (plain_or_escaped b) (key_word bytes)
     (escaped_plain (is_between 33 126 b && not (b == 37)) b refl) (key_plain bytes)
 
+bytes_plain :
+    (bytes : List ℕ)
+    → is_plain (flat_map (λ b. hex_digit 97 (b / 16) ∷ hex_digit 97 (b % 16) ∷ []) bytes) ≡ true
+bytes_plain [] = refl
+bytes_plain (b ∷ bytes) =
+    both_hold _ _ (digit_plain 97 (b / 16) (omega arith))
+    (both_hold _ _ (digit_plain 97 (b % 16) (omega arith)) (bytes_plain bytes))
+
 -- ---- lines
 
 pub record IsPlain (w : List ℕ) : Type 0 where
@@ -113,8 +122,13 @@ few_clients : (f : Format) (n : ℕ) → n ≤ clients_most f → n < 2 ^ 64
 few_clients One n le = omega arith
 few_clients Two n le = omega arith
 
-rack_plain : (rack : Rack) → InLimits rack → IsPlain (rack_line rack [])
-rack_plain rack limits =
+named_plain : (keys : List (List ℕ)) → IsPlain (flat_map (λ k. codes " +" ++ key_word k) keys)
+named_plain [] = record { is = refl }
+named_plain (k ∷ keys) = more (more (word (codes " +") refl) (key k)) (named_plain keys)
+
+rack_plain :
+    (rack : Rack) (keys : List (List ℕ)) → InLimits rack → IsPlain (rack_line rack keys)
+rack_plain rack keys limits =
     let servers = more (word (codes "rack servers=") refl)
     (number rack.servers (few_servers rack.format rack.servers limits.servers.1)) in
     let clients = more (more servers (word (codes " clients=") refl))
@@ -126,12 +140,14 @@ rack_plain rack limits =
     let hot = more (more listed (word (codes " hot=") refl))
     (number rack.hot (omega (arith, limits.hot.1))) in
     let first = more (more hot (word (codes " first=") refl)) (number rack.first limits.first.1) in
-    more (more first (format_plain rack.format)) (word [] refl)
+    more (more first (format_plain rack.format)) (named_plain keys)
 
-pub rack_feeds : (line : List ℕ) (rack : Rack) → IsRackLine line rack [] → HasNoFeed line
-rack_feeds line rack is =
+pub rack_feeds :
+    (line : List ℕ) (rack : Rack) (keys : List (List ℕ)) → IsRackLine line rack keys
+    → HasNoFeed line
+rack_feeds line rack keys is =
     subst HasNoFeed (sym is.spelled)
-    (plain_feeds (rack_line rack []) (rack_plain rack is.limits).is)
+    (plain_feeds (rack_line rack keys) (rack_plain rack keys is.limits).is)
 
 -- a client of the rack has a small number
 small_client : (rack : Rack) (client : ℕ) → InLimits rack → client < rack.clients → client < 2 ^ 64
@@ -148,35 +164,72 @@ deliver_plain :
 deliver_plain true short long p q = (p, (q, tt))
 deliver_plain false short long p q = (q, tt)
 
+node_plain :
+    (rack : Rack) (to : Node) → InLimits rack → NodeInRack rack to → IsPlain (node_words to)
+node_plain rack (node.Client id) limits here =
+    more (word (codes "client ") refl) (number id (small_client rack id limits here))
+node_plain rack (node.Server id) limits here =
+    let few : rack.servers < 2 ^ 64 = few_servers rack.format rack.servers limits.servers.1 in
+    more (word (codes "server ") refl) (number id (omega (arith, here)))
+node_plain rack (node.Switch id) limits here =
+    more (word (codes "switch ") refl) (number id (omega (arith, here, limits.switches.1)))
+node_plain rack node.Controller limits here = word (codes "controller") refl
+
+-- a verb and a key
+keyed : (verb k : List ℕ) → is_plain verb ≡ true → AllPlain ((verb ++ key_word k) ∷ [])
+keyed verb k plain = (more (word verb plain) (key k), tt)
+
 event_plain :
     (rack : Rack) (e : Event) → InLimits rack → EventInRack rack e → EventInRange e
-    → is_event_so_far e ≡ true → AllPlain (event_lines e)
-event_plain rack (event.Read client k) limits here range so_far = (
+    → AllPlain (event_lines e)
+event_plain rack (event.Read client k) limits here range = (
   more (more (more (word (codes "read ") refl)
       (number client (small_client rack client limits here))) (word (codes " ") refl)) (key k),
   tt,
 )
-event_plain rack (event.Write client k value) limits here range so_far = (
+event_plain rack (event.Write client k value) limits here range = (
   more (more (more (more (more (word (codes "write ") refl)
       (number client (small_client rack client limits here.0))) (word (codes " ") refl)) (key k))
       (word (codes " ") refl)) (record { is = key_plain value }),
   tt,
 )
-event_plain rack (event.Delete client k) limits here range so_far = (
+event_plain rack (event.Delete client k) limits here range = (
   more (more (more (word (codes "delete ") refl)
       (number client (small_client rack client limits here.0))) (word (codes " ") refl)) (key k),
   tt,
 )
-event_plain rack (event.Resend client) limits here range so_far =
+event_plain rack (event.Resend client) limits here range =
     (more (word (codes "resend ") refl) (number client (small_client rack client limits here)), tt)
-event_plain rack (event.GiveUp client) limits here range so_far =
+event_plain rack (event.GiveUp client) limits here range =
     (more (word (codes "giveup ") refl) (number client (small_client rack client limits here)), tt)
-event_plain rack (event.Deliver n pick) limits here range so_far =
+event_plain rack (event.Deliver n pick) limits here range =
     let short = more (word (codes "deliver ") refl) (number n range.0) in
     deliver_plain (pick == 0) (codes "deliver " ++ decimal n)
     (codes "deliver " ++ decimal n ++ codes " " ++ decimal pick) short
     (more (more short (word (codes " ") refl)) (number pick range.1))
-event_plain rack _ limits here range so_far = absurd (cc)
+event_plain rack (event.Junk to bytes) limits here range = (
+  more (more (more (word (codes "junk ") refl) (node_plain rack to limits here))
+      (word (codes " ") refl)) (word (hex_word bytes) (bytes_plain bytes)),
+  tt,
+)
+event_plain rack (event.Promote k) limits here range = keyed (codes "promote ") k refl
+event_plain rack (event.Demote k) limits here range = keyed (codes "demote ") k refl
+event_plain rack (event.Copy k target) limits here range = (
+  more (more (more (word (codes "copy ") refl) (key k)) (word (codes " ") refl))
+      (number target (omega (arith, range.1))),
+  tt,
+)
+event_plain rack (event.Fence k) limits here range = keyed (codes "fence ") k refl
+event_plain rack (event.Handover target) limits here range =
+    (more (word (codes "handover ") refl) (number target (omega (arith, range))), tt)
+event_plain rack event.Clear limits here range = (word (codes "clear") refl, tt)
+event_plain rack event.Retry limits here range = (word (codes "retry") refl, tt)
+event_plain rack event.Survey limits here range = (word (codes "survey") refl, tt)
+event_plain rack (event.Plan promote_at demote_below) limits here range = (
+  more (more (more (word (codes "plan ") refl) (number promote_at range.0))
+      (word (codes " ") refl)) (number demote_below range.1),
+  tt,
+)
 
 contained : (lines : List (List ℕ)) (line : List ℕ) → AllPlain lines → Contains lines line → IsPlain
     line
@@ -185,10 +238,10 @@ contained lines line all has =
 
 pub event_feeds :
     (rack : Rack) (line : List ℕ) (e : Event) → InLimits rack → IsEventLine rack line e
-    → is_event_so_far e ≡ true → HasNoFeed line
-event_feeds rack line e limits is so_far =
+    → HasNoFeed line
+event_feeds rack line e limits is =
     plain_feeds line
-    (contained (event_lines e) line (event_plain rack e limits is.in_rack is.in_range so_far)
+    (contained (event_lines e) line (event_plain rack e limits is.in_rack is.in_range)
     is.spelled).is
 
 -- ---- a line before its line feed

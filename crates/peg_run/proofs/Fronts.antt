@@ -7,9 +7,9 @@ use Rattle.std.proofs.lemmas.Bool.Decides.{nat_tests}
 use Rattle.std.specs.List.{AllByRecursion}
 use Rattle.peg_name.specs.Name.{Rack, line_most}
 use Rattle.peg_event.specs.declared.Event.{Event}
-use Rattle.peg_model.specs.Schedule.{Schedule, EventsThenEnd, fed}
+use Rattle.peg_model.specs.Schedule.{IsEventLine, Schedule, EventsThenEnd, fed}
 use Rattle.peg_io.specs.Lines.{line_of, past_line}
-use Rattle.peg_run.specs.Front.{Lines, AreLinesOf, IsRead, IsEventSoFar}
+use Rattle.peg_run.specs.Front.{Lines, AreLinesOf, IsRead}
 use Rattle.peg_run.specs.Standing.{IsOnlyEvent, IsForced}
 
 -- ---- one line more
@@ -52,7 +52,7 @@ pub forced_is_read :
 forced_is_read rack keys events input tail read = (
   read.0.is,
   read.1,
-  lines_as (IsOnlyEvent rack) (IsEventSoFar rack) (line_most rack.format) events (past_line input)
+  lines_as (IsOnlyEvent rack) (IsEventLine rack) (line_most rack.format) events (past_line input)
       tail (λ line e only. only.is) read.2,
 )
 
@@ -135,16 +135,16 @@ end_of tail is (inr e) =
 
 pub ends_after :
     (rack : Rack) (events : List Event) (input tail : List ℕ)
-    → AreLinesOf (IsEventSoFar rack) (line_most rack.format) events input tail
+    → AreLinesOf (IsEventLine rack) (line_most rack.format) events input tail
     → line_of tail ≡ codes "end" → 0 < length tail → EventsThenEnd rack events input
 ends_after rack [] input tail read is more =
     subst (EventsThenEnd rack []) (sym read) (end_of tail is (last_or_fed tail))
 ends_after rack (e ∷ events) input tail read is more = (
   line_of input,
   past_line input,
-  read.0.is,
+  read.0,
   read.1,
-  is_fed input (lines_more_left (IsEventSoFar rack) (line_most rack.format) events
+  is_fed input (lines_more_left (IsEventLine rack) (line_most rack.format) events
       (past_line input) tail read.2 more),
   ends_after rack events (past_line input) tail read.2 is more,
 )
@@ -161,10 +161,10 @@ schedule_of rack keys events input tail read is =
     let more = end_is_more tail is in (
       line_of input,
       past_line input,
-      read.0.is,
+      read.0,
       read.1,
       is_fed input
-          (lines_more_left (IsEventSoFar rack) (line_most rack.format) events (past_line input)
+          (lines_more_left (IsEventLine rack) (line_most rack.format) events (past_line input)
           tail read.2 more),
       ends_after rack events (past_line input) tail read.2 is more,
     )

@@ -5,7 +5,7 @@ pub mod Fronts
 pub mod Standings
 pub mod Feeds
 pub mod Grows
-pub mod Built
+pub mod Schedules
 pub mod Steps
 pub mod Starts
 pub mod Answered

@@ -5,21 +5,22 @@ use Rattle.std.proofs.lemmas.List.{append-nil}
 use Rattle.peg_name.specs.Name.{Rack}
 use Rattle.peg_model.specs.World.{run}
 use Rattle.peg_model.specs.Schedule.{fed}
-use Rattle.peg_io.specs.Outside.{Tells, Appends}
+use Rattle.peg_io.specs.Outside.{Tells, Appends, Rose}
 use Rattle.peg_io.specs.Lines.{ReadAhead, line_of, past_line, HasNoFeed, Gives, Keeps}
 use Rattle.peg_io.specs.declared.lines.NextLine.{NextLine}
 use Rattle.peg_io.specs.declared.lines.NextLine.TheVariants as next
 use Rattle.peg_world.specs.Running.{Running, started}
-use Rattle.peg_run.specs.Front.{NoLine, Lines, text_of, IsRead, IsRefused, IsBuilt}
+use Rattle.peg_run.specs.Front.{NoLine, Lines, text_of, IsRead, IsRefused, HasSchedule}
 use Rattle.peg_run.specs.Front.{IsNotAccepted}
 use Rattle.peg_run.specs.Ends.{AppendsPart, AppendsMore, IsNear, IsNearLine, IsNearBad, Ended}
 use Rattle.peg_run.specs.Pages.{Moves}
-use Rattle.peg_run.specs.Standing.{IsOnlyRack, TakesRack, Stands, IsAt, IsForced}
+use Rattle.peg_run.specs.Standing.{IsOnlyRack, TakesRack, Stands, IsAt, IsForced, HasCause}
+use Rattle.peg_run.specs.declared.Status.{Status}
 use Rattle.peg_run.specs.declared.Status.TheVariants as status
 use Rattle.peg_run.specs.declared.replay.Replay.{Replay}
 use Rattle.peg_run.proofs.Passing.{Tells_as, Tells_same}
 use Rattle.peg_run.proofs.Standings.{none_left, near_long}
-use Rattle.peg_run.proofs.Built.{first_not_built}
+use Rattle.peg_run.proofs.Schedules.{first_has_none}
 
 nothing_appended : (held : Option (List ℕ)) → Tells held held (Appends [])
 nothing_appended held = Tells_same held (Appends []) (λ b. sym (append-nil b))
@@ -49,8 +50,8 @@ bad_first left left' held R refused short long told = (
         Tells_as left left' R (IsNearBad NoLine)
         (λ b n r. (b, refl, short b n r, long b n r)) told;
   },
-  Tells_as left left' R (λ input rest. IsBuilt input → ⊥)
-      (λ b n r. first_not_built b (refused b n r)) told,
+  Tells_as left left' R (λ input rest. HasSchedule input → ⊥)
+      (λ b n r. first_has_none b (refused b n r)) told,
 )
 
 module _ (left left' held : Option (List ℕ)) (before : List ℕ) (none : before ≡ [])
@@ -141,7 +142,7 @@ module _ (rack : Rack) (keys : List (List ℕ)) (left left' held : Option (List 
         world = refl;
         place = refl;
         within = (omega arith, omega arith);
-        begins = record { limits = took.is.is.is.limits; named = took.is.is.is.named };
+        begins = record { limits = took.is.is.limits; named = took.is.is.named };
         lines = tt;
       }
 
@@ -208,3 +209,13 @@ begun_memory left left' held R told =
           (λ b n r. (b, refl, (λ no. absurd (cc)))) told;
       written = Tells_same held (AppendsPart []) (λ b. ([], [], refl, sym (append-nil b)));
     }
+
+-- a fault of the source that came after more of them has its cause all the same
+pub caused_later :
+    (s : Status) (reads0 reads1 reads2 writes writes' : ℕ)
+    → reads0 ≤ reads1 → HasCause s reads1 reads2 writes writes'
+    → HasCause s reads0 reads2 writes writes'
+caused_later status.ReadFault reads0 reads1 reads2 writes writes' later cause =
+    omega (arith, later, cause)
+caused_later status.WriteFault reads0 reads1 reads2 writes writes' later cause = cause
+caused_later _ reads0 reads1 reads2 writes writes' later cause = tt

@@ -11,14 +11,14 @@ use Rattle.peg_event.specs.declared.Line.{Line}
 use Rattle.peg_event.specs.declared.Op.{Op}
 use Rattle.peg_model.specs.World.{World, step, history}
 use Rattle.peg_model.specs.Order.{orders}
-use Rattle.peg_model.specs.Schedule.{fed}
+use Rattle.peg_model.specs.Schedule.{fed, IsEventLine}
 use Rattle.peg_model.specs.Trace.{line_text}
 use Rattle.peg_law.specs.Lines.{IsLine}
 use Rattle.peg_io.specs.Outside.{Tells, Appends}
 use Rattle.peg_io.specs.Lines.{line_of, past_line, HasNoFeed}
 use Rattle.peg_world.specs.Running.{Running, stepped, is_past}
 use Rattle.peg_run.specs.Front.{Front, Lines, ran, text_of, whole_of, limit_of, IsRead, IsWithin}
-use Rattle.peg_run.specs.Front.{IsRefused, IsBuilt, IsEventSoFar}
+use Rattle.peg_run.specs.Front.{IsRefused, HasSchedule}
 use Rattle.peg_run.specs.Ends.{AppendsPart, IsNear, IsNearLine, IsNearUnwritten, IsCut, Ended}
 use Rattle.peg_run.specs.Ends.{IsNearBad}
 use Rattle.peg_run.specs.Pages.{Moves, Passes, end_text}
@@ -31,7 +31,7 @@ use Rattle.peg_run.proofs.Passing.{Tells_as}
 use Rattle.peg_run.proofs.Runs.{ran_more, length_more, reached_more, line_after, text_more}
 use Rattle.peg_run.proofs.Runs.{whole_text}
 use Rattle.peg_run.proofs.Fronts.{all_more, forced_is_read, forced_more}
-use Rattle.peg_run.proofs.Built.{past_not_built, refused_not_built}
+use Rattle.peg_run.proofs.Schedules.{past_has_none, refused_has_none}
 use Rattle.peg_run.proofs.Standings.{page_written, page_cut, page_more, page_more_cut, near_later}
 use Rattle.peg_run.proofs.Standings.{part_grows, moves_grow, all_written}
 
@@ -262,9 +262,9 @@ module _ (left left' held h1 : Option (List ℕ)) (events : List Event) (s : Rep
       (subst (λ xs. IsOnlyEvent s.rack.0 xs e) line.2 only)
       (subst (λ xs. length xs ≤ line_most s.rack.0.format) line.2 took.short))) took.read
 
-  read_so_far :
+  read_before :
       Tells left left' (λ input rest. (tail : List ℕ) × IsRead (front_of events s) input tail)
-  read_so_far = took_read left left' held h1 events s took
+  read_before = took_read left left' held h1 events s took
 
   module _ (world : Running) (line : Line)
       (did : stepped s.world (s.place + 1) e ≡ (world, line))
@@ -303,7 +303,7 @@ module _ (left left' held h1 : Option (List ℕ)) (events : List Event) (s : Rep
           begins = took.at.begins;
           lines =
               all_more (IsLine s.rack.0) events e took.at.lines
-              (only.is.is.in_rack, only.is.is.in_range);
+              (only.is.in_rack, only.is.in_range);
         }
 
     pub step_stands :
@@ -359,7 +359,7 @@ module _ (left left' held h1 : Option (List ℕ)) (events : List Event) (s : Rep
       (subst (λ n. is_past s.world n e ≡ true) place_is past) in
       let over = past_more s.rack.0 s.rack.1 events e past_at in
       stopped (front_of events s) s.page left left' held h1 h2 (status.TooMuch (s.place + 1))
-      answer took.at.within read_so_far took.written (inr took.near)
+      answer took.at.within read_before took.written (inr took.near)
       (λ all. (
         record {
           rack = s.rack.0;
@@ -374,12 +374,12 @@ module _ (left left' held h1 : Option (List ℕ)) (events : List Event) (s : Rep
               (λ input rest. (tail : List ℕ) × IsForced s.rack.0 s.rack.1 events input tail
               × (s.lines.line ≡ line_of tail) × (s.lines.held ++ rest ≡ past_line tail))
               (λ input rest. (tail : List ℕ) × IsRead (front_of events s) input tail
-              × IsEventSoFar s.rack.0 (line_of tail) e
+              × IsEventLine s.rack.0 (line_of tail) e
               × (length (line_of tail) ≤ line_most s.rack.0.format))
               (λ b n line. (
                 line.0,
                 forced_is_read s.rack.0 s.rack.1 events b line.0 line.1,
-                subst (λ xs. IsEventSoFar s.rack.0 xs e) line.2 only.is,
+                subst (λ xs. IsEventLine s.rack.0 xs e) line.2 only.is,
                 subst (λ xs. length xs ≤ line_most s.rack.0.format) line.2 took.short,
               )) took.read;
           written = all;
@@ -401,8 +401,8 @@ module _ (left left' held h1 : Option (List ℕ)) (events : List Event) (s : Rep
         Tells_as left left'
             (λ input rest. (tail : List ℕ) × IsForced s.rack.0 s.rack.1 events input tail
             × (s.lines.line ≡ line_of tail) × (s.lines.held ++ rest ≡ past_line tail))
-            (λ input rest. IsBuilt input → ⊥)
-            (λ b n line. past_not_built s.rack.0 s.rack.1 events e b line.0 line.1
+            (λ input rest. HasSchedule input → ⊥)
+            (λ b n line. past_has_none s.rack.0 s.rack.1 events e b line.0 line.1
             (subst (λ xs. IsOnlyEvent s.rack.0 xs e) line.2 only) over) took.read,
       )) stop
 
@@ -453,8 +453,8 @@ refused_ends left left' held h1 h2 events s answer took stop =
               line.4,
             )) took.read;
       },
-      Tells_as left left' T (λ input rest. IsBuilt input → ⊥)
-          (λ b n line. refused_not_built s.rack.0 s.rack.1 events b line.0 line.1 line.2)
+      Tells_as left left' T (λ input rest. HasSchedule input → ⊥)
+          (λ b n line. refused_has_none s.rack.0 s.rack.1 events b line.0 line.1 line.2)
           took.read,
     )) stop
 

@@ -15,14 +15,14 @@ use Rattle.std.specs.List.{AllByRecursion}
 use Rattle.std.specs.declared.alloc.Global.{Global}
 use Rattle.peg_name.specs.Name.{Rack, line_most}
 use Rattle.peg_event.specs.declared.Event.{Event}
-use Rattle.peg_model.specs.Schedule.{IsStart}
+use Rattle.peg_model.specs.Schedule.{IsStart, IsEventLine}
 use Rattle.peg_model.specs.Trace.{replay_text}
 use Rattle.peg_model.specs.Headline.{IsLinearizable}
 use Rattle.peg_law.specs.Lines.{IsLine}
 use Rattle.peg_io.specs.Outside.{Tells, Appends}
 use Rattle.peg_io.specs.Lines.{line_of, past_line, HasNoFeed}
 use Rattle.peg_run.specs.Front.{Front, Lines, text_of, whole_of, count_of, limit_of, IsWithin}
-use Rattle.peg_run.specs.Front.{IsRead, IsRefused, IsEventSoFar, IsBuilt}
+use Rattle.peg_run.specs.Front.{IsRead, IsRefused, HasSchedule}
 use Rattle.peg_words.specs.Jobs.{job_of}
 use Rattle.peg_words.specs.declared.Job.{Job}
 use Rattle.peg_run.specs.declared.Status.{Status}
@@ -92,7 +92,7 @@ pub record IsTooMuchAt (line : ℕ) (left left' held held' : Option (List ℕ)) 
   pub past : IsWithin (Lines rack keys (events ++ e ∷ [])) → ⊥
   pub read : Tells left left'
       (λ input rest. (tail : List ℕ) × IsRead (Lines rack keys events) input tail
-      × IsEventSoFar rack (line_of tail) e × (length (line_of tail) ≤ line_most rack.format))
+      × IsEventLine rack (line_of tail) e × (length (line_of tail) ≤ line_most rack.format))
   pub written : Tells held held' (Appends (text_of (Lines rack keys events)))
 
 -- all whole lines that were read are written, and what was taken behind them is a part of a line
@@ -176,7 +176,7 @@ Ended status.WriteFault left left' held held' =
 Ended status.WireFault left left' held held' = ⊥
 Ended (status.BadInput line) left left' held held' =
     IsBadAt line left left' held held' × IsNearBadAt line left left'
-    × Tells left left' (λ input rest. IsBuilt input → ⊥)
+    × Tells left left' (λ input rest. HasSchedule input → ⊥)
 Ended (status.TooMuch line) left left' held held' =
     IsTooMuchAt line left left' held held' × IsNearTooMuchAt line left left'
-    × Tells left left' (λ input rest. IsBuilt input → ⊥)
+    × Tells left left' (λ input rest. HasSchedule input → ⊥)

@@ -4,16 +4,13 @@
 --     count_of front      how many lines they are
 --     limit_of front      how many bytes the next line may have
 --     IsWithin front      the events and their packets are within the limits
---     IsRackSoFar, IsEventSoFar      the lines that are built so far
 --     AreLinesOf P limit events input tail      the input begins with a line for each event, as P
 --         says, and the tail is past them
 --     IsRead front input tail      the input begins with these lines, and the tail is past them
 --     IsRefused front tail      the line behind these is missing, too long or not accepted
---     IsBuilt input      the input begins with a schedule of lines that are built so far, within
---         the limits
-use Rattle.std.specs.Prelude.{◌≡◌, ◌≢◌, ◌⊎◌, ◌≤◌, ◌<◌, ◌+◌, ℕ, true, List, [], ◌∷◌, ◌++◌, length}
+--     HasSchedule input      the input begins with a schedule, and its run is within the limits
+use Rattle.std.specs.Prelude.{◌≡◌, ◌≢◌, ◌⊎◌, ◌≤◌, ◌<◌, ◌+◌, ℕ, List, [], ◌∷◌, ◌++◌, length}
 use Rattle.std.specs.Prelude.{codes}
-use Rattle.std.specs.List.{AllByRecursion}
 use Rattle.peg_name.specs.Name.{Rack, line_most}
 use Rattle.peg_event.specs.declared.Event.{Event}
 use Rattle.peg_event.specs.declared.Line.{Line}
@@ -21,7 +18,6 @@ use Rattle.peg_model.specs.World.{World, start, run}
 use Rattle.peg_model.specs.Schedule.{IsRackLine, IsEventLine, Schedule, fed}
 use Rattle.peg_model.specs.Trace.{lines_text, replay_text}
 use Rattle.peg_io.specs.Lines.{line_of, past_line}
-use Rattle.peg_world.specs.Running.{is_event_so_far}
 
 pub data Front : Type 0 where
   NoLine : Front
@@ -53,14 +49,6 @@ IsWithin (Lines rack keys events) =
 
 -- ---- lines that are accepted
 
-pub record IsRackSoFar (line : List ℕ) (rack : Rack) (keys : List (List ℕ)) : Type 0 where
-  pub is : IsRackLine line rack keys
-  pub so_far : keys ≡ []
-
-pub record IsEventSoFar (rack : Rack) (line : List ℕ) (e : Event) : Type 0 where
-  pub is : IsEventLine rack line e
-  pub so_far : is_event_so_far e ≡ true
-
 abbrev pub AreLinesOf :
     (List ℕ → Event → Type 0) → ℕ → List Event → List ℕ → List ℕ → Type 0
 AreLinesOf P limit [] input tail = input ≡ tail
@@ -72,15 +60,15 @@ AreLinesOf P limit (e ∷ events) input tail =
 abbrev pub IsRead : Front → List ℕ → List ℕ → Type 0
 IsRead NoLine input tail = input ≡ tail
 IsRead (Lines rack keys events) input tail =
-    IsRackSoFar (line_of input) rack keys × (length (line_of input) ≤ 2048)
-    × AreLinesOf (IsEventSoFar rack) (line_most rack.format) events (past_line input) tail
+    IsRackLine (line_of input) rack keys × (length (line_of input) ≤ 2048)
+    × AreLinesOf (IsEventLine rack) (line_most rack.format) events (past_line input) tail
 
 -- ---- a line that isn't
 
 abbrev pub IsNotAccepted : Front → List ℕ → Type 0
-IsNotAccepted NoLine line = (rack : Rack) (keys : List (List ℕ)) → IsRackSoFar line rack keys → ⊥
+IsNotAccepted NoLine line = (rack : Rack) (keys : List (List ℕ)) → IsRackLine line rack keys → ⊥
 IsNotAccepted (Lines rack keys events) line =
-    (line ≢ codes "end") × ((e : Event) → IsEventSoFar rack line e → ⊥)
+    (line ≢ codes "end") × ((e : Event) → IsEventLine rack line e → ⊥)
 
 abbrev pub IsRefused : Front → List ℕ → Type 0
 IsRefused front tail =
@@ -88,7 +76,7 @@ IsRefused front tail =
 
 -- ---- a whole schedule
 
-abbrev pub IsBuilt : List ℕ → Type 0
-IsBuilt input =
-    (rack : Rack) × (events : List Event) × Schedule input rack [] events
-    × AllByRecursion (λ e. is_event_so_far e ≡ true) events × IsWithin (Lines rack [] events)
+abbrev pub HasSchedule : List ℕ → Type 0
+HasSchedule input =
+    (rack : Rack) × (keys : List (List ℕ)) × (events : List Event)
+    × Schedule input rack keys events × IsWithin (Lines rack keys events)

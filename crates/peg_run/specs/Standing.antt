@@ -8,7 +8,7 @@
 --     Takes, Steps      when the next line was read, and when it was stepped
 --     Stops, HasCause      how it ends with a status, and that a fault has its cause
 --     TakesRack      when the rack line was read
-use Rattle.std.specs.Prelude.{◌≡◌, ◌≢◌, ◌⊎◌, ◌≤◌, ◌<◌, ◌+◌, ℕ, true, false, Option, Some, None}
+use Rattle.std.specs.Prelude.{◌≡◌, ◌≢◌, ◌⊎◌, ◌≤◌, ◌<◌, ◌+◌, ℕ, false, Option, Some, None}
 use Rattle.std.specs.Prelude.{List, []}
 use Rattle.std.specs.Prelude.{◌++◌, length, drop, codes}
 use Rattle.std.specs.List.{AllByRecursion}
@@ -18,8 +18,8 @@ use Rattle.peg_model.specs.Schedule.{IsRackLine, IsEventLine, IsStart, EventInRa
 use Rattle.peg_law.specs.Lines.{IsLine}
 use Rattle.peg_io.specs.Outside.{Tells, Appends, Rose}
 use Rattle.peg_io.specs.Lines.{ReadAhead, line_of, past_line, HasNoFeed}
-use Rattle.peg_world.specs.Running.{Running, is_event_so_far}
-use Rattle.peg_run.specs.Front.{Front, Lines, ran, text_of, IsWithin, IsRackSoFar, IsEventSoFar}
+use Rattle.peg_world.specs.Running.{Running}
+use Rattle.peg_run.specs.Front.{Front, Lines, ran, text_of, IsWithin}
 use Rattle.peg_run.specs.Front.{AreLinesOf, IsRefused, limit_of}
 use Rattle.peg_run.specs.Ends.{IsNear, IsNearUnwritten, AppendsPart, Ended}
 use Rattle.peg_run.specs.Pages.{Moves}
@@ -36,11 +36,11 @@ reached rack keys events =
 -- ---- what was read
 
 pub record IsOnlyRack (line : List ℕ) (rack : Rack) (keys : List (List ℕ)) : Type 0 where
-  pub is : IsRackSoFar line rack keys
+  pub is : IsRackLine line rack keys
   pub only : (r : Rack) (k : List (List ℕ)) → IsRackLine line r k → (r ≡ rack) × (k ≡ keys)
 
 pub record IsOnlyEvent (rack : Rack) (line : List ℕ) (e : Event) : Type 0 where
-  pub is : IsEventSoFar rack line e
+  pub is : IsEventLine rack line e
   pub only : (other : Event) → IsEventLine rack line other → other ≡ e
   pub no_end : line ≢ codes "end"
 
@@ -122,7 +122,7 @@ abbrev pub IsEntryOf : Next → Rack → List ℕ → Type 0
 IsEntryOf (next.Event e) rack line = IsOnlyEvent rack line e
 IsEntryOf next.End rack line = line ≡ codes "end"
 IsEntryOf next.Refused rack line =
-    (line ≢ codes "end") × ((e : Event) → IsEventSoFar rack line e → ⊥)
+    (line ≢ codes "end") × ((e : Event) → IsEventLine rack line e → ⊥)
 IsEntryOf _ rack line = ⊥
 
 abbrev pub Takes :
@@ -138,7 +138,7 @@ Takes next.Unwritten left left' held held' events s = Ended status.WriteFault le
 
 -- what a world asks of the event that is given to it
 abbrev pub MayBeStepped : Next → Rack → Type 0
-MayBeStepped (next.Event e) rack = EventInRack rack e × (is_event_so_far e ≡ true)
+MayBeStepped (next.Event e) rack = EventInRack rack e
 MayBeStepped _ rack = Unit {0}
 
 -- ---- an end

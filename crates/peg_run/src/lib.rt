@@ -5,7 +5,7 @@ ghost use Rattle.std.specs.Prelude.{◌≡◌, ◌≢◌, ◌⊎◌, ℕ, None, 
 ghost use Rattle.peg_model.specs.Trace.{RunText};
 ghost use Rattle.peg_io.specs.Outside.{Rose, Tells};
 ghost use Rattle.peg_run.specs.Status.{code_of, status_text};
-ghost use Rattle.peg_run.specs.Front.{IsBuilt};
+ghost use Rattle.peg_run.specs.Front.{HasSchedule};
 ghost use Rattle.peg_run.specs.Ends.{job_in, WhereTold, IsDone, IsBadAt, IsTooMuchAt, IsUnread};
 ghost use Rattle.peg_run.specs.Ends.{IsCut, IsAhead, ShowsRegisters};
 
@@ -82,8 +82,8 @@ impl fmt::Display for Status {
     }
 }
 
-/// Carries out the words of a command. So far there is one, `replay`, which reads a schedule line
-/// by line and writes its trace, its history and the order of each key.
+/// Carries out the words of a command. There is one, `replay`, which reads a schedule line by line
+/// and writes its trace, its history and the order of each key. It takes every line of the grammar.
 ///
 /// Whoever reads an order that it prints holds a register history in the hand: so the clause
 /// `linearizable` says, by the definitions of the register alone. It asks of the sink that it tells
@@ -152,7 +152,7 @@ pub fn run<S: Source, K: Sink, W: Wire>(
     // A schedule within the limits is done, where nothing fails and there is memory.
     ensures complete { job_in words.now ≡ Some Job.Replay
         → Tells (S.left source.old) (S.left source.new)
-        (λ input rest. IsBuilt input → (Rose (S.faults source.old) (S.faults source.new) → ⊥)
+        (λ input rest. HasSchedule input → (Rose (S.faults source.old) (S.faults source.new) → ⊥)
         → (Rose (K.faults sink.old) (K.faults sink.new) → ⊥)
         → (result ≡ Status.Done) ⊎ (result ≡ Status.OutOfMemory)) }
 {

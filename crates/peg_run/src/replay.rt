@@ -7,7 +7,6 @@ ghost use Rattle.peg_event.specs.declared.Event as book;
 ghost use Rattle.peg_model.specs.Schedule.{EventInRack};
 ghost use Rattle.peg_io.specs.Outside.{Rose};
 ghost use Rattle.peg_io.specs.Lines.{has_feed};
-ghost use Rattle.peg_world.specs.Running.{is_event_so_far};
 ghost use Rattle.peg_run.specs.Pages.{Passes};
 ghost use Rattle.peg_run.specs.Front.{NoLine, IsNotAccepted};
 ghost use Rattle.peg_run.specs.Ends.{Ended};
@@ -58,20 +57,6 @@ fn line_most(format: Format) -> usize
     }
 }
 
-fn is_so_far(event: &Event) -> bool
-    ensures { result ≡ is_event_so_far event.now }
-{
-    matches!(
-        event,
-        Event::Read { .. }
-            | Event::Write { .. }
-            | Event::Delete { .. }
-            | Event::Resend { .. }
-            | Event::GiveUp { .. }
-            | Event::Deliver { .. }
-    )
-}
-
 impl Replay {
     // Writes what is gathered, unless the next line is read ahead.
     fn make_ready<K: Sink>(&mut self, sink: &mut K) -> bool
@@ -103,9 +88,9 @@ impl Replay {
         ensures { IsEntryOf result self.now.rack.0 self.now.lines.line }
     {
         match event_of(self.rack.config(), self.lines.line()) {
-            Some(Entry::Event(event)) if is_so_far(&event) => Next::Event(event),
+            Some(Entry::Event(event)) => Next::Event(event),
             Some(Entry::End) => Next::End,
-            _ => Next::Refused,
+            None => Next::Refused,
         }
     }
 
@@ -151,7 +136,6 @@ impl Replay {
     fn step<K: Sink>(&mut self, event: &Event, sink: &mut K) -> Option<Status>
         requires tied { IsTied self.old }
         requires in_rack { EventInRack self.old.rack.0 event.now }
-        requires so_far { is_event_so_far event.now ≡ true }
         ensures steps { (left left' held : Option (List ℕ)) (events : List book.Event)
             → TakesLine left left' held (K.held sink.old) events self.old
             → IsOnlyEvent self.old.rack.0 self.old.lines.line event.now
@@ -240,12 +224,7 @@ fn rack_in_place(lines: &Lines) -> Option<Rack>
     ensures { MatchOption result (IsNotAccepted NoLine lines.now.line)
         (λ r. IsOnlyRack lines.now.line r.0 r.1) }
 {
-    let rack = rack_of(lines.line())?;
-    if rack.keys().is_empty() {
-        Some(rack)
-    } else {
-        None
-    }
+    rack_of(lines.line())
 }
 
 // Reads the first line. An error is how the replay ends.

@@ -84,6 +84,45 @@ fn schedules_are_replayed(rt: HostRuntime) -> Result<(), Fail> {
     Ok(())
 }
 
+// Whether a schedule is done, with this text.
+fn is_replayed(alloc: Global, input: &[u8], output: &[u8]) -> Result<bool, AllocError> {
+    let mut source = source_of(alloc, input, 4096, 0)?;
+    let mut sink = sink_of(alloc, 4096, 0)?;
+    let status = replayed(alloc, &mut source, &mut sink)?;
+    Ok(status == Status::Done && sink.tells() && sink.written() == output)
+}
+
+#[test]
+fn listed_keys_are_replayed(rt: HostRuntime) -> Result<(), Fail> {
+    assert!(rt; is_replayed(rt.alloc(), LISTED_IN, LISTED_OUT)?);
+    assert!(rt; is_replayed(rt.alloc(), COPIED_IN, COPIED_OUT)?);
+    assert!(rt; is_replayed(rt.alloc(), OLD_REPLY_IN, OLD_REPLY_OUT)?);
+    assert!(rt; is_replayed(rt.alloc(), STAMPED_BEFORE_IN, STAMPED_BEFORE_OUT)?);
+    assert!(rt; is_replayed(rt.alloc(), DEMOTED_IN, DEMOTED_OUT)?);
+    assert!(rt; is_replayed(rt.alloc(), READ_ACROSS_IN, READ_ACROSS_OUT)?);
+    Ok(())
+}
+
+#[test]
+fn commands_are_replayed(rt: HostRuntime) -> Result<(), Fail> {
+    assert!(rt; is_replayed(rt.alloc(), COMMANDS_REPEATED_IN, COMMANDS_REPEATED_OUT)?);
+    assert!(rt; is_replayed(rt.alloc(), DIRECTORY_FULL_IN, DIRECTORY_FULL_OUT)?);
+    assert!(rt; is_replayed(rt.alloc(), RETRIED_IN, RETRIED_OUT)?);
+    assert!(rt; is_replayed(rt.alloc(), NOT_COPIED_IN, NOT_COPIED_OUT)?);
+    assert!(rt; is_replayed(rt.alloc(), FENCED_IN, FENCED_OUT)?);
+    assert!(rt; is_replayed(rt.alloc(), FENCED_AND_COPIED_IN, FENCED_AND_COPIED_OUT)?);
+    Ok(())
+}
+
+#[test]
+fn handovers_plans_and_junk_are_replayed(rt: HostRuntime) -> Result<(), Fail> {
+    assert!(rt; is_replayed(rt.alloc(), HANDED_OVER_IN, HANDED_OVER_OUT)?);
+    assert!(rt; is_replayed(rt.alloc(), HANDED_BACK_IN, HANDED_BACK_OUT)?);
+    assert!(rt; is_replayed(rt.alloc(), PLANNED_IN, PLANNED_OUT)?);
+    assert!(rt; is_replayed(rt.alloc(), JUNK_IN, JUNK_OUT)?);
+    Ok(())
+}
+
 #[test]
 fn the_first_line_at_fault_is_named(rt: HostRuntime) -> Result<(), Fail> {
     let rows = [
@@ -91,6 +130,8 @@ fn the_first_line_at_fault_is_named(rt: HostRuntime) -> Result<(), Fail> {
         (b"\n", 1, b""),
         (b"end\n", 1, b""),
         (LARGE_IN_FORMAT_1_IN, 1, b""),
+        (LISTED_TWICE_IN, 1, b""),
+        (TOO_MANY_LISTED_IN, 1, b""),
         (
             b"rack servers=1 clients=1 switches=1 listed=1 hot=1 first=1",
             2,

@@ -11,6 +11,7 @@ ghost use Rattle.peg_model.specs.Packet as model;
 ghost use Rattle.peg_model.specs.Packet.{in_range, is_content, is_key, is_client, is_positive};
 ghost use Rattle.peg_model.specs.Packet.{is_switch, is_server};
 ghost use Rattle.peg_model.specs.Datagrams.{server_on_bytes, are_packets};
+ghost use Rattle.peg_packet.specs.Nodes.{are_in_rack};
 ghost use Rattle.peg_packet.specs.Seen.{seen};
 ghost use Rattle.peg_packet.specs.Outbox.{posted};
 
@@ -70,8 +71,8 @@ impl Server {
 
     /// Takes any bytes. `Malformed` where no packet is spelled by them, and `OutOfPlace` where the
     /// packet is of the other format or is not for this server; then, and after `OutOfMemory`, the
-    /// server is as before and nothing is sent.
-    #[tactic(auto, unfolding(peg_model::specs::Server::server_step))]
+    /// server is as before and nothing is sent. One packet is sent at most, to a node of the rack.
+    #[tactic(auto, unfolding(peg_model::specs::Server::server_step), using(crate::proofs::Nodes::few_on_bytes))]
     pub fn step(&mut self, bytes: &[u8], post: &mut Post) -> Result<ServerDid, OutOfMemory>
         requires format { post.old.format ≡ self.old.rack.format }
         requires room { length post.old.items < post.old.slots }
@@ -81,6 +82,11 @@ impl Server {
             (server_on_bytes self.old bytes.now).sent) }
         ensures packets { OnOk result (are_packets self.old.rack.format
             (server_on_bytes self.old bytes.now).sent ≡ true) }
+        ensures nodes { OnOk result (are_in_rack self.old.rack
+            (server_on_bytes self.old bytes.now).sent ≡ true) }
+        ensures few { OnOk result (length (server_on_bytes self.old bytes.now).sent ≤ 1) }
+        ensures rack { self.new.rack ≡ self.old.rack }
+        ensures id { self.new.id ≡ self.old.id }
         ensures err { OnErr result (self.new ≡ self.old) }
         ensures err_sent { OnErr result (post.new ≡ post.old) }
     {
@@ -147,8 +153,8 @@ impl Server {
         home(&self.config, &key_of(key)) == self.id
     }
 
-    /// Serves a packet that is for this server.
-    #[tactic(auto, unfolding(peg_model::specs::Packet::in_range))]
+    /// Serves a packet that is for this server. What it sends goes to nodes of the rack.
+    #[tactic(auto, unfolding(peg_model::specs::Packet::in_range), using(crate::proofs::Nodes::served_in_rack))]
     fn serve(&mut self, packet: &Packet<'_>, post: &mut Post) -> Result<ServerDid, OutOfMemory>
         requires format { post.old.format ≡ self.old.rack.format }
         requires room { length post.old.items < post.old.slots }
@@ -160,6 +166,10 @@ impl Server {
             (serve self.old (seen packet.now)).sent) }
         ensures packets { OnOk result (are_packets self.old.rack.format
             (serve self.old (seen packet.now)).sent ≡ true) }
+        ensures nodes { OnOk result (are_in_rack self.old.rack
+            (serve self.old (seen packet.now)).sent ≡ true) }
+        ensures rack { self.new.rack ≡ self.old.rack }
+        ensures id { self.new.id ≡ self.old.id }
         ensures err { OnErr result (self.new ≡ self.old) }
         ensures err_sent { OnErr result (post.new ≡ post.old) }
     {
@@ -274,6 +284,8 @@ impl Server {
             (serve self.old
             (model.ToServerWrite client seq version self.old.id switch key.now content.now)).sent
             ≡ true) }
+        ensures rack { self.new.rack ≡ self.old.rack }
+        ensures id { self.new.id ≡ self.old.id }
         ensures err { OnErr result (self.new ≡ self.old) }
         ensures err_sent { OnErr result (post.new ≡ post.old) }
     {
@@ -325,6 +337,8 @@ impl Server {
             (serve self.old (model.Fence switch self.old.id version key.now)).sent) }
         ensures packets { OnOk result (are_packets self.old.rack.format
             (serve self.old (model.Fence switch self.old.id version key.now)).sent ≡ true) }
+        ensures rack { self.new.rack ≡ self.old.rack }
+        ensures id { self.new.id ≡ self.old.id }
         ensures err { OnErr result (self.new ≡ self.old) }
         ensures err_sent { OnErr result (post.new ≡ post.old) }
     {
@@ -366,6 +380,8 @@ impl Server {
         ensures packets { OnOk result (are_packets self.old.rack.format
             (serve self.old (model.CopyData switch self.old.id version key.now content.now)).sent
             ≡ true) }
+        ensures rack { self.new.rack ≡ self.old.rack }
+        ensures id { self.new.id ≡ self.old.id }
         ensures err { OnErr result (self.new ≡ self.old) }
         ensures err_sent { OnErr result (post.new ≡ post.old) }
     {

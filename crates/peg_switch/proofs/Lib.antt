@@ -1,3 +1,5 @@
 pub mod Forwards
 pub mod Steps
 pub mod Collecting
+pub mod Lasting
+pub mod Counting

@@ -1,4 +1,3 @@
 pub mod Seen
 pub mod Kept
-pub mod Nodes
 pub mod Modes

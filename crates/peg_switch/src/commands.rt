@@ -15,8 +15,8 @@ ghost use Rattle.peg_model.specs.Datagrams.{are_packets};
 ghost use Rattle.peg_model.specs.Switch.{what_in_rack, is_misplaced, Active};
 ghost use Rattle.peg_packet.specs.Seen.{what_seen};
 ghost use Rattle.peg_packet.specs.Outbox.{posted};
+ghost use Rattle.peg_packet.specs.Nodes.{are_in_rack};
 ghost use Rattle.peg_switch.specs.Kept.{comes_next};
-ghost use Rattle.peg_switch.specs.Nodes.{are_in_rack};
 
 use crate::Switch;
 use peg_event::{CopyFrom, FenceOf, MarkDid, Outcome, Promoted, SwitchDid};
@@ -43,6 +43,7 @@ impl Switch {
             (on_command self.old number (what_seen what.now)).sent ≡ true }
         ensures nodes { are_in_rack self.old.rack
             (on_command self.old number (what_seen what.now)).sent ≡ true }
+        ensures few { length (on_command self.old number (what_seen what.now)).sent ≤ parts_most self.old.rack.format }
     {
         let last = self.last;
         if number - 1 == last {
@@ -72,6 +73,7 @@ impl Switch {
             (carry_out self.old number (what_seen what.now)).sent ≡ true }
         ensures nodes { are_in_rack self.old.rack
             (carry_out self.old number (what_seen what.now)).sent ≡ true }
+        ensures few { length (carry_out self.old number (what_seen what.now)).sent ≤ parts_most self.old.rack.format }
     {
         prove!(self.config().servers() > 0);
         match what {
@@ -102,6 +104,7 @@ impl Switch {
             (promotes (promote (core_of self.old) key.now number) self.old number).sent ≡ true }
         ensures nodes { are_in_rack self.old.rack
             (promotes (promote (core_of self.old) key.now number) self.old number).sent ≡ true }
+        ensures few { length (promotes (promote (core_of self.old) key.now number) self.old number).sent ≤ 1 }
     {
         let outcome = match self.core.promote(&key_of(key), number) {
             Promoted::Listed => Outcome::Listed(number),
@@ -128,6 +131,7 @@ impl Switch {
             (demotes (demote (core_of self.old) key.now) self.old number).sent ≡ true }
         ensures nodes { are_in_rack self.old.rack
             (demotes (demote (core_of self.old) key.now) self.old number).sent ≡ true }
+        ensures few { length (demotes (demote (core_of self.old) key.now) self.old number).sent ≤ 1 }
     {
         let outcome = match self.core.demote(&key_of(key)) {
             MarkDid::NotListed => Outcome::NotListed,
@@ -164,6 +168,8 @@ impl Switch {
         ensures nodes { are_in_rack self.old.rack
             (copies (copy_source (core_of self.old) key.now target)
             self.old number target key.now).sent ≡ true }
+        ensures few { length (copies (copy_source (core_of self.old) key.now target)
+            self.old number target key.now).sent ≤ 2 }
     {
         prove!(self.config().servers() > 0);
         match self.core.copy_source(&key_of(key), target) {
@@ -199,6 +205,7 @@ impl Switch {
             (fences (fence_of (core_of self.old) key.now) self.old number key.now).sent ≡ true }
         ensures nodes { are_in_rack self.old.rack
             (fences (fence_of (core_of self.old) key.now) self.old number key.now).sent ≡ true }
+        ensures few { length (fences (fence_of (core_of self.old) key.now) self.old number key.now).sent ≤ 2 }
     {
         prove!(self.config().servers() > 0);
         match self.core.fence_of(&key_of(key)) {
@@ -229,6 +236,7 @@ impl Switch {
             (carry_out self.old number model.Clear).sent ≡ true }
         ensures nodes { are_in_rack self.old.rack
             (carry_out self.old number model.Clear).sent ≡ true }
+        ensures few { length (carry_out self.old number model.Clear).sent ≤ 1 }
     {
         self.counts.clear();
         self.settle(number, Outcome::Cleared, post)
@@ -247,6 +255,7 @@ impl Switch {
             ≡ true }
         ensures nodes { are_in_rack self.old.rack (acknowledgement number outcome ∷ [])
             ≡ true }
+        ensures few { length (acknowledgement number outcome ∷ []) ≤ 1 }
     {
         self.last = number;
         self.kept = Some(outcome);
@@ -264,6 +273,7 @@ impl Switch {
         ensures sent { post.new ≡ posted post.old (repeats self.now).sent }
         ensures packets { are_packets self.now.rack.format (repeats self.now).sent ≡ true }
         ensures nodes { are_in_rack self.now.rack (repeats self.now).sent ≡ true }
+        ensures few { length (repeats self.now).sent ≤ 1 }
     {
         if let Some(outcome) = self.kept {
             tell(self.last, outcome, post);
@@ -282,6 +292,7 @@ impl Switch {
             (active_step self.now model.Survey 0).sent ≡ true }
         ensures nodes { are_in_rack self.now.rack
             (active_step self.now model.Survey 0).sent ≡ true }
+        ensures few { length (active_step self.now model.Survey 0).sent ≤ 1 }
     {
         prove!(self.config().hot() <= 12);
         let rows = self.counts.rows();

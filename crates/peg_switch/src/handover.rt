@@ -16,9 +16,9 @@ ghost use Rattle.peg_parts.specs.Taking.{take_part};
 ghost use Rattle.peg_model.specs.Datagrams.{are_packets};
 ghost use Rattle.peg_packet.specs.Seen.{seen};
 ghost use Rattle.peg_packet.specs.Outbox.{posted};
+ghost use Rattle.peg_packet.specs.Nodes.{are_in_rack};
 ghost use Rattle.peg_switch.specs.Kept.{each_part};
 ghost use Rattle.peg_switch.specs.Modes.{idle_packet, sealed_packet, taken_in, IsNumbered};
-ghost use Rattle.peg_switch.specs.Nodes.{are_in_rack};
 
 use crate::commands::tell;
 use crate::{Mode, Switch};
@@ -44,6 +44,7 @@ impl Switch {
             (sealed self.old number target).sent ≡ true }
         ensures nodes { are_in_rack self.old.rack
             (sealed self.old number target).sent ≡ true }
+        ensures few { length (sealed self.old number target).sent ≤ parts_most self.old.rack.format }
     {
         self.mode = Mode::Sealed { target };
         self.last = number;
@@ -75,6 +76,7 @@ impl Switch {
             (sealed_packet self.old target (seen packet.now)).sent ≡ true }
         ensures nodes { are_in_rack self.old.rack
             (sealed_packet self.old target (seen packet.now)).sent ≡ true }
+        ensures few { length (sealed_packet self.old target (seen packet.now)).sent ≤ parts_most self.old.rack.format }
     {
         match packet {
             Packet::Part {
@@ -105,6 +107,7 @@ impl Switch {
         ensures sent { post.new ≡ posted post.old (part_packets self.old target) }
         ensures packets { are_packets self.old.rack.format (part_packets self.old target) ≡ true }
         ensures nodes { are_in_rack self.old.rack (part_packets self.old target) ≡ true }
+        ensures few { length (part_packets self.old target) ≤ parts_most self.old.rack.format }
     {
         let (stamper, directory) = (self.core.stamper(), self.core.directory());
         self.parts.seal(stamper, directory, self.last);
@@ -127,6 +130,7 @@ impl Switch {
             (idle_packet self.old (seen packet.now)).sent ≡ true }
         ensures nodes { are_in_rack self.old.rack
             (idle_packet self.old (seen packet.now)).sent ≡ true }
+        ensures few { length (idle_packet self.old (seen packet.now)).sent ≤ 1 }
     {
         match packet {
             Packet::Part {
@@ -162,6 +166,7 @@ impl Switch {
             (switch_step self.old (Part epoch index count bytes.now) 0).sent ≡ true }
         ensures nodes { are_in_rack self.old.rack
             (switch_step self.old (Part epoch index count bytes.now) 0).sent ≡ true }
+        ensures few { length (switch_step self.old (Part epoch index count bytes.now) 0).sent ≤ 1 }
     {
         takes_parts_as_the_book_does();
         match self.take_in(epoch, index, count, bytes) {
@@ -221,6 +226,7 @@ impl Switch {
             (acknowledgement last (outcome.Activated epoch) ∷ []) ≡ true }
         ensures nodes { are_in_rack self.old.rack
             (acknowledgement last (outcome.Activated epoch) ∷ []) ≡ true }
+        ensures few { length (acknowledgement last (outcome.Activated epoch) ∷ []) ≤ 1 }
     {
         let activated = Outcome::Activated(epoch);
         self.mode = Mode::Active;
@@ -234,6 +240,7 @@ impl Switch {
 }
 
 // Sends each part to the target, in order.
+#[tactic(auto, using(crate::proofs::Counting::part_each))]
 fn send_each(state: &Parts, target: SwitchId, epoch: u64, post: &mut Post)
     requires format { post.old.format ≡ state.now.rack.format }
     requires room { length post.old.items + parts_most state.now.rack.format ≤ post.old.slots }
@@ -244,6 +251,7 @@ fn send_each(state: &Parts, target: SwitchId, epoch: u64, post: &mut Post)
         ≡ true }
     ensures nodes { are_in_rack state.now.rack (each_part state.now.bytes target epoch)
         ≡ true }
+    ensures few { length (each_part state.now.bytes target epoch) ≤ parts_most state.now.rack.format }
 {
     let count = state.count();
     for index in 0..count {

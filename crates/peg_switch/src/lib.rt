@@ -14,8 +14,8 @@ ghost use Rattle.peg_model.specs.Switch.{is_misplaced, what_in_rack, Active, Idl
 ghost use Rattle.peg_model.specs.Datagrams.{switch_on_bytes, are_packets};
 ghost use Rattle.peg_packet.specs.Seen.{seen, what_seen};
 ghost use Rattle.peg_packet.specs.Outbox.{posted};
+ghost use Rattle.peg_packet.specs.Nodes.{are_in_rack};
 ghost use Rattle.peg_switch.specs.Seen.{mode_seen};
-ghost use Rattle.peg_switch.specs.Nodes.{are_in_rack};
 
 use peg_directory::Directory;
 use peg_event::Outcome;
@@ -155,7 +155,9 @@ impl Switch {
 
 impl Switch {
     /// Takes any bytes, with the pick by which it chooses among servers. The outbox has room for
-    /// `most_packets`. Each packet that is sent goes to a node of the rack. With each of these answers the switch is as before and nothing is sent, and the first that fits is given:
+    /// `most_packets`, and no step sends more. Each packet that is sent goes to a node of the rack.
+    /// With each of these answers the switch is as before and nothing is sent, and the first that
+    /// fits is given:
     /// - `Malformed` where no packet is spelled by the bytes;
     /// - `OutOfPlace` where the packet is of the other format, of a kind that is not for a switch, or
     ///   names a node that the rack hasn't; at an active switch for the next command where it seals
@@ -168,6 +170,7 @@ impl Switch {
     ///   `OldPart` and `HasPart` for a part of an earlier epoch and one that is held;
     /// - `Stale` and `Exhausted` by the stamps, and `VoidSkipped` where the void is not of its client's
     ///   last stamp.
+    #[tactic(auto, using(crate::proofs::Lasting::rack_stays, crate::proofs::Lasting::id_stays))]
     pub fn step(&mut self, bytes: &[u8], pick: u64, post: &mut Post) -> SwitchDid
         requires format { post.old.format ≡ self.old.rack.format }
         requires room { length post.old.items + parts_most self.old.rack.format ≤ post.old.slots }
@@ -178,6 +181,9 @@ impl Switch {
             (switch_on_bytes self.old bytes.now pick).sent ≡ true }
         ensures nodes { are_in_rack self.old.rack
             (switch_on_bytes self.old bytes.now pick).sent ≡ true }
+        ensures few { length (switch_on_bytes self.old bytes.now pick).sent ≤ parts_most self.old.rack.format }
+        ensures rack { self.new.rack ≡ self.old.rack }
+        ensures id { self.new.id ≡ self.old.id }
     {
         let Some((format, packet)) = decode(bytes) else {
             return SwitchDid::Malformed;
@@ -205,6 +211,7 @@ impl Switch {
             (switch_step self.old (seen packet.now) pick).sent ≡ true }
         ensures nodes { are_in_rack self.old.rack
             (switch_step self.old (seen packet.now) pick).sent ≡ true }
+        ensures few { length (switch_step self.old (seen packet.now) pick).sent ≤ parts_most self.old.rack.format }
     {
         if !self.takes(packet) {
             return SwitchDid::OutOfPlace;
@@ -314,6 +321,7 @@ impl Switch {
             (switch_step self.old (seen packet.now) pick).sent ≡ true }
         ensures nodes { are_in_rack self.old.rack
             (switch_step self.old (seen packet.now) pick).sent ≡ true }
+        ensures few { length (switch_step self.old (seen packet.now) pick).sent ≤ parts_most self.old.rack.format }
     {
         if self.is_misplaced(packet) {
             return SwitchDid::OutOfPlace;
@@ -339,6 +347,7 @@ impl Switch {
             (active_step self.old (seen packet.now) pick).sent ≡ true }
         ensures nodes { are_in_rack self.old.rack
             (active_step self.old (seen packet.now) pick).sent ≡ true }
+        ensures few { length (active_step self.old (seen packet.now) pick).sent ≤ parts_most self.old.rack.format }
     {
         prove!(self.config().servers() > 0);
         match packet {

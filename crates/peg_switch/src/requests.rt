@@ -11,7 +11,7 @@ ghost use Rattle.peg_model.specs.Switch.{counted, with_core, on_reply, on_held};
 ghost use Rattle.peg_model.specs.Datagrams.{are_packets};
 ghost use Rattle.peg_packet.specs.Seen.{content_seen};
 ghost use Rattle.peg_packet.specs.Outbox.{posted};
-ghost use Rattle.peg_switch.specs.Nodes.{are_in_rack};
+ghost use Rattle.peg_packet.specs.Nodes.{are_in_rack};
 
 use crate::Switch;
 use peg_event::{Forward, SwitchDid};
@@ -47,6 +47,8 @@ impl Switch {
         ensures nodes { are_in_rack self.old.rack (forwards_read
             (read_request (core_of self.old) key.now pick) self.old client seq key.now).sent
             ≡ true }
+        ensures few { length (forwards_read
+            (read_request (core_of self.old) key.now pick) self.old client seq key.now).sent ≤ 1 }
     {
         prove!(self.config().servers() > 0);
         let name = key_of(key);
@@ -101,6 +103,9 @@ impl Switch {
         ensures nodes { are_in_rack self.old.rack (forwards_write
             (write_request (core_of self.old) key.now client seq pick)
             self.old client seq key.now (content_seen content.entry)).sent ≡ true }
+        ensures few { length (forwards_write
+            (write_request (core_of self.old) key.now client seq pick)
+            self.old client seq key.now (content_seen content.entry)).sent ≤ 1 }
     {
         prove!(self.config().servers() > 0);
         let name = key_of(key);

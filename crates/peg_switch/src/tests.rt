@@ -1,5 +1,5 @@
 use crate::*;
-use peg_name::{ClientId, Seq, ServerId};
+use peg_name::{ClientId, Note, Seq, ServerId};
 use peg_packet::{encode, is_in_range};
 use std::process::Abort;
 use std::test::Fail;
@@ -20,6 +20,23 @@ fn take(rt: &impl Abort, switch: &mut Switch, bytes: &[u8], post: &mut Post) -> 
     post.clear();
     assert!(rt; post.format() == format && most_packets(format) <= post.slots());
     switch.step(bytes, 0, post)
+}
+
+// Hands bytes over, of which one packet comes: it goes to this node and has these bytes.
+fn sends(
+    rt: &impl Abort,
+    switch: &mut Switch,
+    post: &mut Post,
+    bytes: &[u8],
+    to: Node,
+    packet: &[u8],
+) -> SwitchDid {
+    let did = take(rt, switch, bytes, post);
+    assert!(rt; post.len() == 1);
+    let (node, sent) = post.item(0);
+    assert_eq!(rt; node, to);
+    assert_eq!(rt; sent, packet);
+    did
 }
 
 #[test]
@@ -94,6 +111,84 @@ fn refusals_come_in_their_order(rt: HostRuntime) -> Result<(), Fail> {
         assert_eq!(rt;
             take(&rt, &mut switch, datagrams[i], &mut post),
             wanted[i],
+            "row {i}"
+        );
+        assert!(rt; post.is_empty());
+    }
+    Ok(())
+}
+
+// A write that was voided is stamped anew, and its reply goes to the client as it came.
+#[test]
+fn a_reply_goes_on_and_a_void_does_not(rt: HostRuntime) -> Result<(), Fail> {
+    let (mut switch, mut post) = make(&rt, rt.alloc(), SwitchId(0))?;
+    let (switch, post) = (&mut switch, &mut post);
+    let (client, seq, server) = (ClientId(0), Seq(1), ServerId(2));
+    let write = b"PG\x01\x02\0\0\0\0\0\0\0\0\0\x01\0\0\0\0\0\0\0\0\0\0\x01k\x01\0\x01x";
+    let first = b"PG\x01\x04\0\0\0\0\0\0\0\0\0\x01\0\0\0\0\0\0\0\x01\x02\0\x01k\x01\0\x01x";
+    let second = b"PG\x01\x04\0\0\0\0\0\0\0\0\0\x01\0\0\0\0\0\0\0\x02\x02\0\x01k\x01\0\x01x";
+    let void = b"PG\x01\x11\0\0\0\0\0\0\0\0\0\x01\0\0\0\0\0\0\0\x01\x02\0\x01k";
+    let reply = b"PG\x01\x06\0\0\0\0\0\0\0\0\0\x01\0\0\0\0\0\0\0\x02\x02\0\x01k";
+    sends(&rt, switch, post, write, Node::Server(server), first);
+    let voided = SwitchDid::Voided {
+        client,
+        seq,
+        version: Version(1),
+    };
+    assert_eq!(rt; take(&rt, switch, void, post), voided);
+    assert!(rt; post.is_empty());
+    let skipped = SwitchDid::VoidSkipped { client, seq };
+    assert_eq!(rt; take(&rt, switch, void, post), skipped);
+    assert!(rt; post.is_empty());
+    sends(&rt, switch, post, write, Node::Server(server), second);
+    let answered = SwitchDid::Answered {
+        client,
+        seq,
+        version: Version(2),
+        note: Note::Unlisted,
+    };
+    let did = sends(&rt, switch, post, reply, Node::Client(client), reply);
+    assert_eq!(rt; did, answered);
+    Ok(())
+}
+
+// The parts go out once more where the same seal comes again, and nothing else is served then.
+#[test]
+fn a_state_is_handed_over(rt: HostRuntime) -> Result<(), Fail> {
+    let (mut switch, mut post) = make(&rt, rt.alloc(), SwitchId(0))?;
+    let (switch, post) = (&mut switch, &mut post);
+    let seal = b"PG\x01\x07\0\0\0\0\0\0\0\x01\x04\x01\0\0\0\0\0\0\0\x02";
+    let read = b"PG\x01\x01\0\0\0\0\0\0\0\0\0\x01\0\0\0\0\0\0\0\0\0\0\x01k";
+    let target = SwitchId(1);
+    let sealed = SwitchDid::Sealed { epoch: 2, target };
+    let did = sends(&rt, switch, post, seal, Node::Switch(target), &STATE);
+    assert_eq!(rt; did, sealed);
+    let again = SwitchDid::Repeated { number: 1 };
+    let did = sends(&rt, switch, post, seal, Node::Switch(target), &STATE);
+    assert_eq!(rt; did, again);
+    let refused = SwitchDid::NotActive { epoch: 1 };
+    assert_eq!(rt; take(&rt, switch, read, post), refused);
+    assert_eq!(rt; take(&rt, switch, b"PG\x01\x0e", post), refused);
+    assert!(rt; post.is_empty());
+    Ok(())
+}
+
+#[test]
+fn an_idle_switch_is_not_active(rt: HostRuntime) -> Result<(), Fail> {
+    let (mut switch, mut post) = make(&rt, rt.alloc(), SwitchId(1))?;
+    let idle = SwitchDid::NotActive { epoch: 0 };
+    // a read, a reply, a void, a server that holds the key, and a command
+    let datagrams: [&[u8]; 5] = [
+        b"PG\x01\x01\0\0\0\0\0\0\0\0\0\x01\0\0\0\0\0\0\0\0\0\0\x01k",
+        b"PG\x01\x06\0\0\0\0\0\0\0\0\0\x01\0\0\0\0\0\0\0\x01\x02\0\x01k",
+        b"PG\x01\x11\0\0\0\0\0\0\0\0\0\x01\0\0\0\0\0\0\0\x01\x02\0\x01k",
+        b"PG\x01\x0b\x02\0\0\0\0\0\0\0\x01\x01k",
+        b"PG\x01\x07\0\0\0\0\0\0\0\x01\x05",
+    ];
+    for i in 0..5 {
+        assert_eq!(rt;
+            take(&rt, &mut switch, datagrams[i], &mut post),
+            idle,
             "row {i}"
         );
         assert!(rt; post.is_empty());

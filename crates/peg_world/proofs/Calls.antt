@@ -1,290 +1,450 @@
--- A request that is to be sent again, an operation that is to be given up, and a line of no node.
-use Rattle.std.proofs.Common.{◌≡◌, ℕ, ◌+◌, ◌<◌, ◌≤◌, Bool, false, List, [], Option}
-use Rattle.std.proofs.Common.{Some, None, length, refl, ap, sym, ◌∙◌, arith, subst, map, slice_get}
-use Rattle.std.proofs.Common.{slice_set}
-use Rattle.std.specs.Prelude.{Ok}
-use Rattle.std.proofs.lemmas.List.{length-set, length-map, append-nil}
+-- What each call of a node comes to.
+use Rattle.std.proofs.Common.{◌≡◌, ℕ, ◌+◌, ◌<◌, ◌≤◌, true, List, [], map, length, ap, sym, ◌∙◌, Some, subst}
+use Rattle.std.proofs.Common.{slice_get, slice_set, slice_index_or, Option, arith}
+use Rattle.std.specs.Prelude.{Result, Ok, Err, IfOk, OnOk, OnErr}
 use Rattle.std.proofs.lemmas.Option.{get_or_from_slice_get}
-use Rattle.peg_name.specs.Name.{Rack}
+use Rattle.peg_name.specs.Name.{Rack, parts_most}
+use Rattle.peg_name.specs.declared.Format.{Format}
 use Rattle.peg_name.specs.declared.Node.{Node}
-use Rattle.peg_event.specs.declared.Line.{Line}
-use Rattle.peg_event.specs.declared.Said.{Said}
-use Rattle.peg_event.specs.declared.Pending.{Pending}
-use Rattle.peg_model.specs.Packet.{Packet}
+use Rattle.peg_name.specs.declared.OutOfMemory.{OutOfMemory}
+use Rattle.peg_event.specs.declared.Ask.{Ask}
+use Rattle.peg_event.specs.declared.ClientDid.{ClientDid}
+use Rattle.peg_event.specs.declared.ClientDid.TheVariants as client_did
+use Rattle.peg_event.specs.declared.ControlDid.{ControlDid}
+use Rattle.peg_event.specs.declared.ControlDid.TheVariants as control_did
+use Rattle.peg_event.specs.declared.Issue.{Issue}
+use Rattle.peg_event.specs.declared.ServerDid.{ServerDid}
+use Rattle.peg_event.specs.declared.ServerDid.TheVariants as server_did
+use Rattle.peg_event.specs.declared.SwitchDid.{SwitchDid}
+use Rattle.peg_event.specs.declared.SwitchDid.TheVariants as switch_did
 use Rattle.peg_model.specs.Words.{Step}
-use Rattle.peg_model.specs.Client.{Client, new_client, resend, resend_of, give_up, give_up_of}
-use Rattle.peg_model.specs.Server.{Server}
-use Rattle.peg_model.specs.Switch.{Switch}
-use Rattle.peg_model.specs.World.{World, Operation, resends, gives_up, resend_said, give_up_said}
-use Rattle.peg_model.specs.World.{reports}
-use Rattle.peg_packet.specs.Outbox.{Outbox}
-use Rattle.peg_world.specs.Running.{Running, Ends, at_place}
-use Rattle.peg_world.specs.Sound.{IsSound, IsRun, IsClient, world_of, packet_in}
-use Rattle.peg_world.specs.Sends.{numbers_of}
-use Rattle.peg_world.proofs.Flying.{Reads, reports_of}
-use Rattle.peg_world.proofs.Moving.{Moved, moved_run, moved_line, moved_within}
-use Rattle.peg_world.proofs.Knowing.{each_set, issued_later, knows_idle}
+use Rattle.peg_model.specs.Packet.{Packet}
+use Rattle.peg_model.specs.Reading.{packet_of}
+use Rattle.peg_model.specs.Datagrams.{are_packets, client_on_bytes, server_on_bytes, switch_on_bytes}
+use Rattle.peg_model.specs.Datagrams.{controller_on_bytes}
+use Rattle.peg_model.specs.Client.{Client, begin_operation, resend, give_up, client_step}
+use Rattle.peg_model.specs.Server.{Server, ServerStep, server_step}
+use Rattle.peg_model.specs.Switch.{Switch, SwitchStep, new_switch, switch_step}
+use Rattle.peg_model.specs.Controller.{Controller, controller_step}
+use Rattle.peg_packet.specs.Nodes.{announces_in, are_in_rack}
+use Rattle.peg_packet.specs.Outbox.{Outbox, posted}
+use Rattle.peg_world.specs.Acting.{Acting, packet_read, server_at, server_acts, switch_at}
+use Rattle.peg_world.specs.Acting.{switch_acts, controller_acts}
+use Rattle.peg_world.specs.Sound.{AreActing, IsClient, IsOutbox, packet_in}
+use Rattle.peg_world.proofs.Acted.{ClientActed, client_called, server_kept, server_acted}
+use Rattle.peg_world.proofs.Acted.{server_found, switch_kept, switch_acted, switch_found}
+use Rattle.peg_world.proofs.Acted.{controller_kept, controller_acted}
+use Rattle.peg_world.proofs.Each.{set_same, set_there}
+use Rattle.peg_world.proofs.Asking.{begin_goes, begin_is, resend_goes, resend_keeps, give_up_is}
+use Rattle.peg_world.proofs.Asking.{give_up_sends}
+use Rattle.peg_world.proofs.Flying.{Reads, Posted, outbox_after, sent_after, count_after}
+use Rattle.peg_world.proofs.Handing.{on_read_bytes}
+use Rattle.peg_world.proofs.Taking.{taken_is, taken_sends}
 
--- ---- a later place, and a client that stays or has nothing pending any more
+-- a client's call that may send something
+sends_called :
+    {D : Type 0} (n now : Acting) (post0 post1 : Outbox) (id arg : ℕ) (old new : Client) (did : D)
+    → (step : Client → Step Client (Node × Packet) D)
+    → Reads → AreActing n post0 → n ≡ now → n.sent ≡ map packet_in post0.items → id ≡ arg
+    → arg < now.rack.clients → now.sent ≡ []
+    → (id < length n.clients → slice_get n.clients id ≡ Some old)
+    → new ≡ (step old).state → did ≡ (step old).did → post1 ≡ posted post0 (step old).sent
+    → are_packets old.format (step old).sent ≡ true
+    → (IsClient n.rack id old → IsClient n.rack id (step old).state)
+    → (IsClient n.rack id old → are_in_rack n.rack (step old).sent ≡ true)
+    → ClientActed n now post1 id arg new did step
+sends_called n now post0 post1 id arg old new did step law are seen shown same within empty at_place
+    is answered put fits stays goes =
+    let box : IsClient n.rack id old → Posted n.rack (step old).sent post0 post1 =
+    λ good. record {
+      empty = sym shown ∙ ap (λ (m : Acting). m.sent) seen ∙ empty;
+      put = put;
+      fits = ap (λ f. are_packets f (step old).sent) (sym good.speaks) ∙ fits;
+      goes = goes good;
+    } in
+    client_called n now post0 post1 id arg old new did step are seen same within at_place is answered
+    stays (λ good. outbox_after n.rack (step old).sent post0 post1 law are.outbox (box good))
+    (λ good. sent_after n.rack (step old).sent post0 post1 law are.outbox (box good))
 
-pub sound_set :
-    (rack : Rack) (before place : ℕ) (cs : List Client) (ss : List Server) (ws : List Switch)
-    → (items items' : List (Node × List ℕ)) (os : List Operation) (id : ℕ) (c : Client)
-    → IsClient rack os id c → before ≤ place → IsSound (world_of rack before cs ss ws items os)
-    → IsSound (world_of rack place (slice_set cs id c) ss ws items' os)
-sound_set rack before place cs ss ws items items' os id c is later sound = record {
-  limits = sound.limits;
-  clients = length-set cs id c ∙ sound.clients;
-  servers = sound.servers;
-  switches = sound.switches;
-  each_client =
-      each_set (IsClient rack os) (IsClient rack os) cs id c sound.each_client is
-      (λ j x other h. h);
-  each_server = sound.each_server;
-  each_switch = sound.each_switch;
-  issued = issued_later before place os later sound.issued;
-}
+pub issue_called :
+    (n now : Acting) (post0 post1 : Outbox) (id arg : ℕ) (key : List ℕ) (ask : Ask)
+    → (old new : Client) (did : Issue)
+    → Reads → AreActing n post0 → n ≡ now → n.sent ≡ map packet_in post0.items → id ≡ arg
+    → arg < now.rack.clients → now.sent ≡ []
+    → (id < length n.clients → slice_get n.clients id ≡ Some old)
+    → new ≡ (begin_operation old key ask).state → did ≡ (begin_operation old key ask).did
+    → post1 ≡ posted post0 (begin_operation old key ask).sent
+    → are_packets old.format (begin_operation old key ask).sent ≡ true
+    → ClientActed n now post1 id arg new did (λ c. begin_operation c key ask)
+issue_called n now post0 post1 id arg key ask old new did law are seen shown same within empty
+    at_place is answered put fits =
+    sends_called n now post0 post1 id arg old new did (λ c. begin_operation c key ask) law are seen
+    shown same within empty at_place is answered put fits
+    (λ good. begin_is n.rack id old key ask good)
+    (λ good. begin_goes n.rack old key ask good.asks)
 
-pub sound_later :
-    (rack : Rack) (before place : ℕ) (cs : List Client) (ss : List Server) (ws : List Switch)
-    → (items items' : List (Node × List ℕ)) (os : List Operation)
-    → before ≤ place → IsSound (world_of rack before cs ss ws items os)
-    → IsSound (world_of rack place cs ss ws items' os)
-sound_later rack before place cs ss ws items items' os later sound = record {
-  limits = sound.limits;
-  clients = sound.clients;
-  servers = sound.servers;
-  switches = sound.switches;
-  each_client = sound.each_client;
-  each_server = sound.each_server;
-  each_switch = sound.each_switch;
-  issued = issued_later before place os later sound.issued;
-}
+pub resend_called :
+    (n now : Acting) (post0 post1 : Outbox) (id arg : ℕ) (old new : Client) (did : Option ℕ)
+    → Reads → AreActing n post0 → n ≡ now → n.sent ≡ map packet_in post0.items → id ≡ arg
+    → arg < now.rack.clients → now.sent ≡ []
+    → (id < length n.clients → slice_get n.clients id ≡ Some old)
+    → new ≡ (resend old).state → did ≡ (resend old).did → post1 ≡ posted post0 (resend old).sent
+    → are_packets old.format (resend old).sent ≡ true
+    → ClientActed n now post1 id arg new did resend
+resend_called n now post0 post1 id arg old new did law are seen shown same within empty at_place is
+    answered put fits =
+    sends_called n now post0 post1 id arg old new did resend law are seen shown same within empty
+    at_place is answered put fits
+    (λ good. subst (IsClient n.rack id) (sym (resend_keeps old)) good)
+    (λ good. resend_goes n.rack old good.asks)
 
--- a line that sends nothing
-pub kept_run :
-    (rack : Rack) (before place events : ℕ) (over : Bool) (cs cs' : List Client)
-    (ss ss' : List Server)
-    → (ws ws' : List Switch) (items : List (Node × List ℕ)) (os os' : List Operation)
-    (post : Outbox)
-    → IsRun (world_of rack before cs ss ws items os) events over post items → over ≡ false
-    → events < 1000000 → length os' ≤ events + 1
-    → IsSound (world_of rack place cs' ss' ws' items os')
-    → IsRun (world_of rack place cs' ss' ws' items os') (events + 1) over post items
-kept_run rack before place events over cs cs' ss ss' ws ws' items os os' post run live few counted
-    sound = record {
-      sound = λ e. sound;
-      outbox = run.outbox;
-      flown = run.flown;
-      few = run.few;
-      counted = counted;
-      limited = omega (arith, few);
-    }
+-- and one that sends nothing
+pub give_up_called :
+    (n now : Acting) (post : Outbox) (id arg : ℕ) (old new : Client) (did : Option ℕ)
+    → AreActing n post → n ≡ now → n.sent ≡ map packet_in post.items → id ≡ arg
+    → arg < now.rack.clients → now.sent ≡ []
+    → (id < length n.clients → slice_get n.clients id ≡ Some old)
+    → new ≡ (give_up old).state → did ≡ (give_up old).did
+    → ClientActed n now post id arg new did give_up
+give_up_called n now post id arg old new did are seen shown same within empty at_place is answered =
+    client_called n now post post id arg old new did give_up are seen same within at_place is
+    answered (λ good. give_up_is n.rack id old good) (λ good. are.outbox)
+    (λ good. sym shown ∙ ap (λ (m : Acting). m.sent) seen ∙ empty ∙ sym (give_up_sends old))
 
-pub none_delivered :
-    (rack : Rack) (before place events : ℕ) (over : Bool) (cs : List Client) (ss : List Server)
-    → (ws : List Switch) (items : List (Node × List ℕ)) (os : List Operation) (post : Outbox)
-    → IsRun (world_of rack before cs ss ws items os) events over post items → over ≡ false
-    → events < 1000000 → before < place
-    → IsRun (world_of rack place cs ss ws items os) (events + 1) over post items
-none_delivered rack before place events over cs ss ws items os post run live few later =
-    kept_run rack before place events over cs cs ss ss ws ws items os os post run live few
-    (omega (arith, run.counted))
-    (sound_later rack before place cs ss ws items items os (omega (arith, later)) (run.sound live))
+-- ---- packets that are read
 
--- ---- an operation is given up
+client_reads :
+    (format : Format) (c : Client) (bytes : List ℕ)
+    → packet_of bytes ≡ Some (format, packet_read bytes) → c.format ≡ format
+    → client_on_bytes c bytes ≡ client_step c (packet_read bytes)
+client_reads format c bytes reads speaks =
+    on_read_bytes (packet_of bytes) c.format (client_step c) c client_did.Ignored client_did.Ignored
+    (packet_read bytes) (reads ∙ ap (λ f. Some (f, packet_read bytes)) (sym speaks))
 
-given_up_is :
-    (o : Option Pending) (rack : Rack) (os : List Operation) (id : ℕ) (c : Client)
-    → IsClient rack os id c → IsClient rack os id (give_up_of o c).state
-given_up_is (Some p) rack os id c is =
+pub client_handed :
+    (n now : Acting) (post : Outbox) (id arg : ℕ) (bytes : List ℕ) (old new : Client)
+    → (did : ClientDid)
+    → AreActing n post → n ≡ now → n.sent ≡ map packet_in post.items → id ≡ arg
+    → arg < now.rack.clients → now.sent ≡ []
+    → packet_of bytes ≡ Some (now.rack.format, packet_read bytes)
+    → announces_in now.rack (packet_read bytes) ≡ true
+    → (id < length n.clients → slice_get n.clients id ≡ Some old)
+    → new ≡ (client_on_bytes old bytes).state → did ≡ (client_on_bytes old bytes).did
+    → ClientActed n now post id arg new did (λ c. client_step c (packet_read bytes))
+client_handed n now post id arg bytes old new did are seen shown same within empty reads goes
+    at_place is answered =
+    let p : Packet = packet_read bytes in
+    let goes_here : announces_in n.rack p ≡ true =
+    ap (λ (m : Acting). announces_in m.rack p) seen ∙ goes in
+    let small : id < length n.clients =
+    omega (arith, same, within, are.clients, ap (λ (m : Acting). m.rack.clients) seen) in
+    let read : client_on_bytes old bytes ≡ client_step old p =
+    client_reads now.rack.format old bytes reads
+    ((are.each_client id old (at_place small)).speaks
+    ∙ ap (λ (m : Acting). m.rack.format) seen) in
+    client_called n now post post id arg old new did (λ c. client_step c p) are seen same within
+    at_place (is ∙ ap (λ (s : Step Client (Node × Packet) ClientDid). s.state) read)
+    (answered ∙ ap (λ (s : Step Client (Node × Packet) ClientDid). s.did) read)
+    (λ good. taken_is n.rack id old p goes_here good) (λ good. are.outbox)
+    (λ good. sym shown ∙ ap (λ (m : Acting). m.sent) seen ∙ empty
+    ∙ sym (taken_sends n.rack old p goes_here))
+
+-- ---- a server
+
+server_reads :
+    (format : Format) (s : Server) (bytes : List ℕ)
+    → packet_of bytes ≡ Some (format, packet_read bytes) → s.rack.format ≡ format
+    → server_on_bytes s bytes ≡ server_step s (packet_read bytes)
+server_reads format s bytes reads speaks =
+    on_read_bytes (packet_of bytes) s.rack.format (server_step s) s server_did.Malformed
+    server_did.OutOfPlace (packet_read bytes)
+    (reads ∙ ap (λ f. Some (f, packet_read bytes)) (sym speaks))
+
+pub record ServerActed
+    (n now : Acting) (post : Outbox) (id arg : ℕ) (new : Server)
+    (result : Result ServerDid OutOfMemory) (step : Server → ServerStep) : Type 0
+  where
+    pub kept :
+        AreActing (record n {
+          servers = slice_set n.servers id new;
+          sent = map packet_in post.items;
+        }) post
+    pub answer : IfOk result (λ did. did ≡ (step (server_at now arg)).did)
+    pub acts :
+        OnOk result
+        (record n { servers = slice_set n.servers id new; sent = map packet_in post.items }
+        ≡ server_acts now (step (server_at now arg)))
+    pub err :
+        OnErr result
+        (record n { servers = slice_set n.servers id new; sent = map packet_in post.items } ≡ now)
+    pub few : OnOk result (length (map packet_in post.items) ≤ 1)
+
+pub server_handed :
+    (result : Result ServerDid OutOfMemory) (n now : Acting) (post0 post1 : Outbox) (id arg : ℕ)
+    → (bytes : List ℕ) (old new : Server)
+    → Reads → AreActing n post0 → n ≡ now → n.sent ≡ map packet_in post0.items → id ≡ arg
+    → arg < now.rack.servers → now.sent ≡ []
+    → packet_of bytes ≡ Some (now.rack.format, packet_read bytes)
+    → (id < length n.servers → slice_get n.servers id ≡ Some old)
+    → IfOk result (λ did. did ≡ (server_on_bytes old bytes).did)
+    → OnOk result (new ≡ (server_on_bytes old bytes).state)
+    → OnOk result (post1 ≡ posted post0 (server_on_bytes old bytes).sent)
+    → OnOk result (are_packets old.rack.format (server_on_bytes old bytes).sent ≡ true)
+    → OnOk result (are_in_rack old.rack (server_on_bytes old bytes).sent ≡ true)
+    → OnOk result (length (server_on_bytes old bytes).sent ≤ 1)
+    → new.rack ≡ old.rack → new.id ≡ old.id → OnErr result (new ≡ old)
+    → OnErr result (post1 ≡ post0)
+    → ServerActed n now post1 id arg new result (λ s. server_step s (packet_read bytes))
+server_handed (Ok did) n now post0 post1 id arg bytes old new law are seen shown same within empty
+    reads at_place answer after sent packets nodes few rack named err err_sent =
+    let p : Packet = packet_read bytes in
+    let small : id < length n.servers =
+    omega (arith, same, within, are.servers, ap (λ (m : Acting). m.rack.servers) seen) in
+    let at : slice_get n.servers id ≡ Some old = at_place small in
+    let good = are.each_server id old at in
+    let read : server_on_bytes old bytes ≡ server_step old p =
+    server_reads now.rack.format old bytes reads
+    (ap (λ (r : Rack). r.format) good.racked ∙ ap (λ (m : Acting). m.rack.format) seen) in
+    let found : server_at now id ≡ old = server_found n now id old seen at in
+    let at_arg : server_at now id ≡ server_at now arg = ap (server_at now) same in
+    let box : Posted n.rack (server_step old p).sent post0 post1 =
     record {
-      named = is.named;
-      speaks = is.speaks;
-      asks = is.asks;
-      knows = knows_idle c os is.knows;
+      empty = sym shown ∙ ap (λ (m : Acting). m.sent) seen ∙ empty;
+      put = sent ∙ ap (λ (s : ServerStep). posted post0 s.sent) read;
+      fits =
+          ap (λ (s : ServerStep). are_packets n.rack.format s.sent) (sym read)
+          ∙ ap (λ (r : Rack). are_packets r.format (server_on_bytes old bytes).sent)
+          (sym good.racked) ∙ packets;
+      goes =
+          ap (λ (s : ServerStep). are_in_rack n.rack s.sent) (sym read)
+          ∙ ap (λ (r : Rack). are_in_rack r (server_on_bytes old bytes).sent) (sym good.racked)
+          ∙ nodes;
+    } in
+    let is : new ≡ (server_step old p).state =
+    after ∙ ap (λ (s : ServerStep). s.state) read in
+    record {
+      kept =
+          server_kept n post0 post1 id new (map packet_in post1.items) are
+          (record { named = named ∙ good.named; racked = rack ∙ good.racked })
+          (outbox_after n.rack (server_step old p).sent post0 post1 law are.outbox box);
+      answer =
+          answer ∙ ap (λ (s : ServerStep). s.did) read
+          ∙ ap (λ x. (server_step x p).did) (sym found ∙ at_arg);
+      acts =
+          server_acted n now id old new (λ s. server_step s p) (map packet_in post1.items) seen at is
+          (ap (λ (s : Server). s.id) (sym is) ∙ named ∙ good.named)
+          (sent_after n.rack (server_step old p).sent post0 post1 law are.outbox box)
+          ∙ ap (λ x. server_acts now (server_step x p)) at_arg;
+      err = tt;
+      few = omega (arith, few, count_after post0 post1 (server_on_bytes old bytes).sent box.empty sent);
     }
-given_up_is None rack os id c is = is
+server_handed (Err error) n now post0 post1 id arg bytes old new law are seen shown same within
+    empty reads at_place answer after sent packets nodes few rack named err err_sent =
+    let small : id < length n.servers =
+    omega (arith, same, within, are.servers, ap (λ (m : Acting). m.rack.servers) seen) in
+    let at : slice_get n.servers id ≡ Some old = at_place small in
+    let good = are.each_server id old at in
+    record {
+      kept =
+          server_kept n post0 post1 id new (map packet_in post1.items) are
+          (record { named = named ∙ good.named; racked = rack ∙ good.racked })
+          (subst (IsOutbox n.rack) (sym err_sent) are.outbox);
+      answer = tt;
+      acts = tt;
+      err =
+          ap (λ x. record n { servers = slice_set n.servers id x; sent = map packet_in post1.items })
+          err
+          ∙ ap (λ xs. record n { servers = xs; sent = map packet_in post1.items })
+          (set_same n.servers id old at)
+          ∙ ap (λ (o : Outbox). record n { sent = map packet_in o.items }) err_sent
+          ∙ ap (λ xs. record n { sent = xs }) (sym shown) ∙ seen;
+      few = tt;
+    }
 
-given_up_id : (o : Option Pending) (c : Client) → (give_up_of o c).state.id ≡ c.id
-given_up_id (Some p) c = refl
-given_up_id None c = refl
+-- ---- a switch
 
-given_up_sends : (o : Option Pending) (c : Client) → (give_up_of o c).sent ≡ []
-given_up_sends (Some p) c = refl
-given_up_sends None c = refl
+switch_reads :
+    (format : Format) (s : Switch) (bytes : List ℕ) (pick : ℕ)
+    → packet_of bytes ≡ Some (format, packet_read bytes) → s.rack.format ≡ format
+    → switch_on_bytes s bytes pick ≡ switch_step s (packet_read bytes) pick
+switch_reads format s bytes pick reads speaks =
+    on_read_bytes (packet_of bytes) s.rack.format (λ p. switch_step s p pick) s
+    switch_did.Malformed switch_did.OutOfPlace (packet_read bytes)
+    (reads ∙ ap (λ f. Some (f, packet_read bytes)) (sym speaks))
 
-pub given_up_run :
-    (rack : Rack) (before place events : ℕ) (over : Bool) (cs : List Client) (ss : List Server)
-    → (ws : List Switch) (items : List (Node × List ℕ)) (os : List Operation) (post : Outbox)
-    → (id : ℕ) (old new : Client)
-    → IsRun (world_of rack before cs ss ws items os) events over post items → over ≡ false
-    → events < 1000000 → before < place → slice_get cs id ≡ Some old → new ≡ (give_up old).state
-    → IsRun (world_of rack place (slice_set cs id new) ss ws items os) (events + 1) over post items
-given_up_run rack before place events over cs ss ws items os post id old new run live few later at
-    is =
-    let sound = run.sound live in
-    let fine : IsClient rack os id new =
-    subst (IsClient rack os id) (sym is)
-    (given_up_is old.pending rack os id old (sound.each_client id old at)) in
-    kept_run rack before place events over cs (slice_set cs id new) ss ss ws ws items os os post run
-    live few (omega (arith, run.counted))
-    (sound_set rack before place cs ss ws items items os id new fine (omega (arith, later)) sound)
+pub record SwitchActed
+    (n now : Acting) (post : Outbox) (id arg : ℕ) (new : Switch) (did : SwitchDid)
+    (step : Switch → SwitchStep) : Type 0
+  where
+    pub kept :
+        AreActing (record n {
+          switches = slice_set n.switches id new;
+          sent = map packet_in post.items;
+        }) post
+    pub answer : did ≡ (step (switch_at now arg)).did
+    pub acts :
+        record n { switches = slice_set n.switches id new; sent = map packet_in post.items }
+        ≡ switch_acts now (step (switch_at now arg))
+    pub held :
+        slice_index_or (slice_set n.switches id new) arg (new_switch n.rack [] arg)
+        ≡ (step (switch_at now arg)).state
+    pub few : length (map packet_in post.items) ≤ parts_most now.rack.format
 
-pub kept_packets :
-    (rack : Rack) (place : ℕ) (cs : List Client) (ss : List Server) (ws : List Switch)
-    → (items : List (Node × List ℕ)) (os : List Operation) (s : Said)
-    → reports (world_of rack place cs ss ws items os) [] s
-    ≡ (world_of rack place cs ss ws items os, record { said = s; sent = None })
-kept_packets rack place cs ss ws items os s =
-    let w : World = world_of rack place cs ss ws items os in
-    let line : Line = record { said = s; sent = None } in
-    ap (λ ps. (record w { packets = ps }, line)) (append-nil (map packet_in items))
+pub switch_handed :
+    (n now : Acting) (post0 post1 : Outbox) (id arg : ℕ) (bytes : List ℕ) (pick : ℕ)
+    → (old new : Switch) (did : SwitchDid)
+    → Reads → AreActing n post0 → n ≡ now → n.sent ≡ map packet_in post0.items → id ≡ arg
+    → arg < now.rack.switches → now.sent ≡ []
+    → packet_of bytes ≡ Some (now.rack.format, packet_read bytes)
+    → (id < length n.switches → slice_get n.switches id ≡ Some old)
+    → new ≡ (switch_on_bytes old bytes pick).state → did ≡ (switch_on_bytes old bytes pick).did
+    → post1 ≡ posted post0 (switch_on_bytes old bytes pick).sent
+    → are_packets old.rack.format (switch_on_bytes old bytes pick).sent ≡ true
+    → are_in_rack old.rack (switch_on_bytes old bytes pick).sent ≡ true
+    → length (switch_on_bytes old bytes pick).sent ≤ parts_most old.rack.format
+    → new.rack ≡ old.rack → new.id ≡ old.id
+    → SwitchActed n now post1 id arg new did (λ s. switch_step s (packet_read bytes) pick)
+switch_handed n now post0 post1 id arg bytes pick old new did law are seen shown same within empty
+    reads at_place after answer sent packets nodes few rack named =
+    let p : Packet = packet_read bytes in
+    let small : id < length n.switches =
+    omega (arith, same, within, are.switches, ap (λ (m : Acting). m.rack.switches) seen) in
+    let at : slice_get n.switches id ≡ Some old = at_place small in
+    let good = are.each_switch id old at in
+    let read : switch_on_bytes old bytes pick ≡ switch_step old p pick =
+    switch_reads now.rack.format old bytes pick reads
+    (ap (λ (r : Rack). r.format) good.racked ∙ ap (λ (m : Acting). m.rack.format) seen) in
+    let found : switch_at now id ≡ old = switch_found n now id old seen at in
+    let at_arg : switch_at now id ≡ switch_at now arg = ap (switch_at now) same in
+    let box : Posted n.rack (switch_step old p pick).sent post0 post1 =
+    record {
+      empty = sym shown ∙ ap (λ (m : Acting). m.sent) seen ∙ empty;
+      put = sent ∙ ap (λ (s : SwitchStep). posted post0 s.sent) read;
+      fits =
+          ap (λ (s : SwitchStep). are_packets n.rack.format s.sent) (sym read)
+          ∙ ap (λ (r : Rack). are_packets r.format (switch_on_bytes old bytes pick).sent)
+          (sym good.racked) ∙ packets;
+      goes =
+          ap (λ (s : SwitchStep). are_in_rack n.rack s.sent) (sym read)
+          ∙ ap (λ (r : Rack). are_in_rack r (switch_on_bytes old bytes pick).sent)
+          (sym good.racked) ∙ nodes;
+    } in
+    let is : new ≡ (switch_step old p pick).state =
+    after ∙ ap (λ (s : SwitchStep). s.state) read in
+    record {
+      kept =
+          switch_kept n post0 post1 id new (map packet_in post1.items) are
+          (record { named = named ∙ good.named; racked = rack ∙ good.racked })
+          (outbox_after n.rack (switch_step old p pick).sent post0 post1 law are.outbox box);
+      answer =
+          answer ∙ ap (λ (s : SwitchStep). s.did) read
+          ∙ ap (λ x. (switch_step x p pick).did) (sym found ∙ at_arg);
+      acts =
+          switch_acted n now id old new (λ s. switch_step s p pick) (map packet_in post1.items) seen
+          at is (ap (λ (s : Switch). s.id) (sym is) ∙ named ∙ good.named)
+          (sent_after n.rack (switch_step old p pick).sent post0 post1 law are.outbox box)
+          ∙ ap (λ x. switch_acts now (switch_step x p pick)) at_arg;
+      held =
+          ap (λ i. slice_index_or (slice_set n.switches id new) i (new_switch n.rack [] i)) (sym same)
+          ∙ get_or_from_slice_get (slice_set n.switches id new) id new (new_switch n.rack [] id)
+          (set_there n.switches id new small)
+          ∙ is ∙ ap (λ x. (switch_step x p pick).state) (sym found ∙ at_arg);
+      few =
+          omega (
+            arith,
+            few,
+            count_after post0 post1 (switch_on_bytes old bytes pick).sent box.empty sent,
+            ap (λ (r : Rack). parts_most r.format) good.racked,
+            ap (λ (m : Acting). parts_most m.rack.format) seen,
+          );
+    }
 
-pub kept_within :
-    (rack : Rack) (place : ℕ) (cs : List Client) (ss : List Server) (ws : List Switch)
-    → (items : List (Node × List ℕ)) (os : List Operation) (after : World × Line) (line : Line)
-    → length items ≤ 200000 → after ≡ (world_of rack place cs ss ws items os, line)
-    → length after.0.packets ≤ 200000
-kept_within rack place cs ss ws items os after line few is =
-    subst (λ (a : World × Line). length a.0.packets ≤ 200000) (sym is)
-    (subst (λ n. n ≤ 200000) (sym (length-map items packet_in)) few)
+-- ---- the controller
 
-pub given_up_ends :
-    (rack : Rack) (before place events : ℕ) (over : Bool) (cs : List Client) (ss : List Server)
-    → (ws : List Switch) (items : List (Node × List ℕ)) (os : List Operation) (id : ℕ)
-    → (old new : Client) (now : Running) (client : ℕ) (did : Option ℕ) (s : Said)
-    → record { world = world_of rack before cs ss ws items os; events = events; is_over = over } ≡
-    now
-    → id ≡ client → over ≡ false → length items ≤ 200000 → slice_get cs id ≡ Some old → old.id ≡ id
-    → new ≡ (give_up old).state → did ≡ (give_up old).did → s ≡ give_up_said client did
-    → Ends now
-    (record {
-      world = world_of rack place (slice_set cs id new) ss ws items os;
-      events = events + 1;
-      is_over = over;
-    })
-    (gives_up (at_place now.world place) client) (Ok (record { said = s; sent = None }))
-given_up_ends rack before place events over cs ss ws items os id old new now client did s seen same
-    live few at named is answered said =
-    let step : Step Client (Node × Packet) (Option ℕ) = give_up old in
-    let w : World = world_of rack place cs ss ws items os in
-    let found = get_or_from_slice_get cs id old (new_client rack.format id 1) at in
-    let said_is : s ≡ give_up_said id step.did =
-    said ∙ ap (give_up_said client) answered ∙ ap (λ i. give_up_said i step.did) (sym same) in
-    let new_id : step.state.id ≡ id = given_up_id old.pending old ∙ named in
-    let all : gives_up (at_place now.world place) client
-    ≡ (world_of rack place (slice_set cs id new) ss ws items os, record { said = s; sent = None }) =
-    ap (λ (r : Running). gives_up (at_place r.world place) client) (sym seen)
-    ∙ ap (gives_up w) (sym same)
-    ∙ ap (λ (x : Client). reports
-    (record w { clients = slice_set cs (give_up x).state.id (give_up x).state }) (give_up x).sent
-    (give_up_said id (give_up x).did)) found
-    ∙ ap (λ i. reports (world_of rack place (slice_set cs i step.state) ss ws items os) step.sent
-    (give_up_said id step.did)) new_id
-    ∙ ap (λ sent. reports (world_of rack place (slice_set cs id step.state) ss ws items os) sent
-    (give_up_said id step.did)) (given_up_sends old.pending old)
-    ∙ kept_packets rack place (slice_set cs id step.state) ss ws items os (give_up_said id step.did)
-    ∙ ap (λ (x : Client). (
-      world_of rack place (slice_set cs id x) ss ws items os,
-      record { said = give_up_said id step.did; sent = None },
-    )) (sym is)
-    ∙ ap (λ t. (
-      world_of rack place (slice_set cs id new) ss ws items os,
-      record { said = t; sent = None },
-    )) (sym said_is) in (
-      all,
-      ap (λ (r : Running). r.events + 1) seen,
-      live,
-      kept_within rack place (slice_set cs id new) ss ws items os
-          (gives_up (at_place now.world place) client) (record { said = s; sent = None }) few all,
+pub record ControllerActed
+    {D : Type 0} (n now : Acting) (post : Outbox) (new : Controller) (did : D)
+    (step : Controller → Step Controller (Node × Packet) D) : Type 0
+  where
+    pub kept : AreActing (record n { controller = new; sent = map packet_in post.items }) post
+    pub answer : did ≡ (step now.controller).did
+    pub acts :
+        record n { controller = new; sent = map packet_in post.items }
+        ≡ controller_acts now (step now.controller)
+
+pub controller_count :
+    (n now : Acting) (post0 post1 : Outbox) (sent : List (Node × Packet)) (most : ℕ)
+    → AreActing n post0 → n ≡ now → n.sent ≡ map packet_in post0.items → now.sent ≡ []
+    → post1 ≡ posted post0 sent → length sent ≤ n.controller.rack.clients + most
+    → length (map packet_in post1.items) ≤ now.rack.clients + most
+controller_count n now post0 post1 sent most are seen shown empty put few =
+    omega (
+      arith,
+      few,
+      count_after post0 post1 sent (sym shown ∙ ap (λ (m : Acting). m.sent) seen ∙ empty) put,
+      ap (λ (r : Rack). r.clients) are.controller,
+      ap (λ (m : Acting). m.rack.clients) seen,
     )
 
--- ---- a request is sent again
+pub controller_called :
+    {D : Type 0} (n now : Acting) (post0 post1 : Outbox) (new : Controller) (did : D)
+    → (step : Controller → Step Controller (Node × Packet) D)
+    → Reads → AreActing n post0 → n ≡ now → n.sent ≡ map packet_in post0.items → now.sent ≡ []
+    → new ≡ (step n.controller).state → did ≡ (step n.controller).did
+    → post1 ≡ posted post0 (step n.controller).sent
+    → are_packets n.controller.rack.format (step n.controller).sent ≡ true
+    → are_in_rack n.controller.rack (step n.controller).sent ≡ true
+    → new.rack ≡ n.controller.rack
+    → ControllerActed n now post1 new did step
+controller_called n now post0 post1 new did step law are seen shown empty after answer put packets
+    nodes rack =
+    let sent : List (Node × Packet) = (step n.controller).sent in
+    let box : Posted n.rack sent post0 post1 =
+    record {
+      empty = sym shown ∙ ap (λ (m : Acting). m.sent) seen ∙ empty;
+      put = put;
+      fits = ap (λ (r : Rack). are_packets r.format sent) (sym are.controller) ∙ packets;
+      goes = ap (λ (r : Rack). are_in_rack r sent) (sym are.controller) ∙ nodes;
+    } in
+    record {
+      kept =
+          controller_kept n post0 post1 new (map packet_in post1.items) are (rack ∙ are.controller)
+          (outbox_after n.rack sent post0 post1 law are.outbox box);
+      answer = answer ∙ ap (λ (m : Acting). (step m.controller).did) seen;
+      acts =
+          controller_acted n now new step (map packet_in post1.items) seen after
+          (sent_after n.rack sent post0 post1 law are.outbox box);
+    }
 
-resent_state : (o : Option Pending) (c : Client) → (resend_of o c).state ≡ c
-resent_state (Some p) c = refl
-resent_state None c = refl
+abbrev ControllerStep : Type 0
+ControllerStep = Step Controller (Node × Packet) ControlDid
 
-pub resent_run :
-    (rack : Rack) (before place events : ℕ) (over : Bool) (cs : List Client) (ss : List Server)
-    → (ws : List Switch) (items0 items1 items2 : List (Node × List ℕ)) (os : List Operation)
-    → (post0 post1 post2 : Outbox) (id : ℕ) (old new : Client)
-    → Reads → Moved rack (resend old).sent items0 items1 items2 post0 post1 post2
-    → IsRun (world_of rack before cs ss ws items0 os) events over post0 items0 → over ≡ false
-    → events < 1000000 → before < place → slice_get cs id ≡ Some old → new ≡ (resend old).state
-    → IsRun (world_of rack place (slice_set cs id new) ss ws items2 os) (events + 1) over post2
-    items2
-resent_run rack before place events over cs ss ws items0 items1 items2 os post0 post1 post2 id old
-    new
-    law moved run live few later at is =
-    let sound = run.sound live in
-    let fine : IsClient rack os id new =
-    subst (IsClient rack os id) (sym (is ∙ resent_state old.pending old))
-    (sound.each_client id old at) in
-    moved_run rack place events over (slice_set cs id new) ss ws os (resend old).sent items0 items1
-    items2 post0 post1 post2 law moved run.flown (omega (arith, run.counted)) few
-    (sound_set rack before place cs ss ws items0 items2 os id new fine (omega (arith, later)) sound)
+controller_reads :
+    (n now : Acting) (post : Outbox) (bytes : List ℕ)
+    → AreActing n post → n ≡ now → packet_of bytes ≡ Some (now.rack.format, packet_read bytes)
+    → controller_on_bytes n.controller bytes ≡ controller_step n.controller (packet_read bytes)
+controller_reads n now post bytes are seen reads =
+    on_read_bytes (packet_of bytes) n.controller.rack.format (controller_step n.controller)
+    n.controller control_did.Malformed control_did.OutOfPlace (packet_read bytes)
+    (reads ∙ ap (λ (m : Acting). Some (m.rack.format, packet_read bytes)) (sym seen)
+    ∙ ap (λ (r : Rack). Some (r.format, packet_read bytes)) (sym are.controller))
 
-pub resent_ends :
-    (rack : Rack) (before place events : ℕ) (over : Bool) (cs : List Client) (ss : List Server)
-    → (ws : List Switch) (items0 items1 items2 : List (Node × List ℕ)) (os : List Operation)
-    → (post0 post1 post2 : Outbox) (id : ℕ) (old new : Client) (now : Running) (client : ℕ)
-    → (did : Option ℕ) (s : Said) (numbers : Option (ℕ × ℕ))
-    → Reads → Moved rack (resend old).sent items0 items1 items2 post0 post1 post2
-    → record { world = world_of rack before cs ss ws items0 os; events = events; is_over = over } ≡
-    now
-    → id ≡ client → over ≡ false → slice_get cs id ≡ Some old → old.id ≡ id
-    → new ≡ (resend old).state → did ≡ (resend old).did → s ≡ resend_said client did
-    → numbers ≡ numbers_of (length items1) (length post1.items)
-    → Ends now
-    (record {
-      world = world_of rack place (slice_set cs id new) ss ws items2 os;
-      events = events + 1;
-      is_over = over;
-    })
-    (resends (at_place now.world place) client) (Ok (record { said = s; sent = numbers }))
-resent_ends rack before place events over cs ss ws items0 items1 items2 os post0 post1 post2 id old
-    new
-    now client did s numbers law moved seen same live at named is answered said numbered =
-    let step : Step Client (Node × Packet) (Option ℕ) = resend old in
-    let w : World = world_of rack place cs ss ws items0 os in
-    let found = get_or_from_slice_get cs id old (new_client rack.format id 1) at in
-    let said_is : s ≡ resend_said id step.did =
-    said ∙ ap (resend_said client) answered ∙ ap (λ i. resend_said i step.did) (sym same) in
-    let new_id : step.state.id ≡ id =
-    ap (λ (x : Client). x.id) (resent_state old.pending old) ∙ named in
-    let line = moved_line rack place (slice_set cs id step.state) ss ws os step.sent items0 items1
-    items2 post0 post1 post2 (resends (at_place now.world place) client)
-    (resend_said id step.did) numbers moved numbered
-    (ap (λ (r : Running). resends (at_place r.world place) client) (sym seen)
-    ∙ ap (resends w) (sym same)
-    ∙ ap (λ (x : Client). reports
-    (record w { clients = slice_set cs (resend x).state.id (resend x).state }) (resend x).sent
-    (resend_said id (resend x).did)) found
-    ∙ ap (λ i. reports (world_of rack place (slice_set cs i step.state) ss ws items0 os) step.sent
-    (resend_said id step.did)) new_id
-    ∙ reports_of rack place (slice_set cs id step.state) ss ws items0 os step.sent
-    (resend_said id step.did) law moved.fits) in
-    let all : resends (at_place now.world place) client
-    ≡ (
-      world_of rack place (slice_set cs id new) ss ws items2 os,
-      record { said = s; sent = numbers },
-    ) =
-    line
-    ∙ ap (λ (x : Client). (
-      world_of rack place (slice_set cs id x) ss ws items2 os,
-      record { said = resend_said id step.did; sent = numbers },
-    )) (sym is)
-    ∙ ap (λ t. (
-      world_of rack place (slice_set cs id new) ss ws items2 os,
-      record { said = t; sent = numbers },
-    )) (sym said_is) in (
-      all,
-      ap (λ (r : Running). r.events + 1) seen,
-      live,
-      moved_within rack place (slice_set cs id new) ss ws os step.sent items0 items1 items2 post0
-          post1 post2 (resends (at_place now.world place) client)
-          (record { said = s; sent = numbers })
-          moved all,
-    )
+pub controller_handed :
+    (n now : Acting) (post0 post1 : Outbox) (bytes : List ℕ) (new : Controller) (did : ControlDid)
+    → Reads → AreActing n post0 → n ≡ now → n.sent ≡ map packet_in post0.items → now.sent ≡ []
+    → packet_of bytes ≡ Some (now.rack.format, packet_read bytes)
+    → new ≡ (controller_on_bytes n.controller bytes).state
+    → did ≡ (controller_on_bytes n.controller bytes).did
+    → post1 ≡ posted post0 (controller_on_bytes n.controller bytes).sent
+    → are_packets n.controller.rack.format (controller_on_bytes n.controller bytes).sent ≡ true
+    → are_in_rack n.controller.rack (controller_on_bytes n.controller bytes).sent ≡ true
+    → new.rack ≡ n.controller.rack
+    → ControllerActed n now post1 new did (λ c. controller_step c (packet_read bytes))
+controller_handed n now post0 post1 bytes new did law are seen shown empty reads after answer put
+    packets nodes rack =
+    let read = controller_reads n now post0 bytes are seen reads in
+    controller_called n now post0 post1 new did (λ c. controller_step c (packet_read bytes)) law are
+    seen shown empty (after ∙ ap (λ (s : ControllerStep). s.state) read)
+    (answer ∙ ap (λ (s : ControllerStep). s.did) read)
+    (put ∙ ap (λ (s : ControllerStep). posted post0 s.sent) read)
+    (ap (λ (s : ControllerStep). are_packets n.controller.rack.format s.sent) (sym read) ∙ packets)
+    (ap (λ (s : ControllerStep). are_in_rack n.controller.rack s.sent) (sym read) ∙ nodes) rack

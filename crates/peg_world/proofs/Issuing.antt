@@ -1,308 +1,169 @@
--- An operation that is to begin.
-use Rattle.std.proofs.Common.{◌≡◌, ℕ, ◌+◌, ◌<◌, ◌≤◌, ◌==◌, Bool, true, false, List, [], ◌∷◌, ◌++◌}
-use Rattle.std.proofs.Common.{length, refl, ap, sym, ◌∙◌, arith, subst, Option, Some, None}
-use Rattle.std.proofs.Common.{slice_get, slice_set, length-append}
+-- An operation that is to begin, and what is noted of it.
+use Rattle.std.proofs.Common.{◌≡◌, ℕ, ◌+◌, ◌<◌, ◌≤◌, List, length, ap, sym, ◌∙◌, refl, subst}
+use Rattle.std.proofs.Common.{Some, arith, slice_get}
+use Rattle.std.specs.Prelude.{Ok}
 use Rattle.std.specs.List.{AllByRecursion}
-use Rattle.std.proofs.lemmas.Bool.{cond_both}
-use Rattle.std.proofs.lemmas.List.{length-set}
-use Rattle.std.proofs.lemmas.Option.{get_or_from_slice_get}
-use Rattle.peg_name.specs.Name.{Rack}
 use Rattle.peg_name.specs.declared.Node.{Node}
 use Rattle.peg_event.specs.declared.Ask.{Ask}
 use Rattle.peg_event.specs.declared.Issue.{Issue}
 use Rattle.peg_event.specs.declared.Issue.TheVariants as issue
 use Rattle.peg_event.specs.declared.Op.{Op}
-use Rattle.peg_event.specs.declared.Pending.{Pending}
-use Rattle.peg_model.specs.Words.{refuse, last_number, Step}
-use Rattle.peg_model.specs.Packet.{Packet}
-use Rattle.peg_model.specs.Datagrams.{spelled, are_packets}
-use Rattle.peg_model.specs.Client.{Client, new_client, begin_operation, begin_unless, request}
-use Rattle.peg_model.specs.Server.{Server}
-use Rattle.peg_model.specs.Switch.{Switch}
-use Rattle.peg_model.specs.World.{World, Operation, issues, new_op, issue_said, after_issue}
-use Rattle.peg_model.specs.World.{reports}
-use Rattle.peg_model.specs.World.{with_client}
-use Rattle.peg_world.specs.Sound.{IsSound, IsClient, world_of, IsFlown}
-use Rattle.peg_ledger.specs.Kept.{IsFresh}
-use Rattle.peg_ledger.specs.After.{issued_after}
-use Rattle.peg_world.specs.Sends.{numbers_of}
-use Rattle.peg_packet.specs.Outbox.{Outbox}
-use Rattle.peg_world.specs.Sound.{IsRun}
-use Rattle.peg_world.proofs.Flying.{Reads, reports_of}
-use Rattle.std.specs.Prelude.{Ok}
 use Rattle.peg_event.specs.declared.Said.{Said}
-use Rattle.peg_world.specs.Running.{Running, Ends, at_place}
-use Rattle.peg_world.proofs.Moving.{Moved, moved_run, moved_line, moved_within}
-use Rattle.peg_world.proofs.Knowing.{is_fresh, knows_issued, knows_others, each_set}
-use Rattle.peg_world.proofs.Knowing.{all_more, issued_later, op_client, op_open, op_issued}
-
--- ---- cases
-
--- what holds where nothing began, and where one more operation did
-begun_both :
-    (P : Step Client (Node × Packet) Issue → Type 0) (o : Option Pending) (c : Client)
-    → (key : List ℕ) (a : Ask)
-    → ((did : Issue) → ((op : Op) (os : List Operation) → issued_after op did os ≡ os)
-    → ((id : ℕ) (os : List Operation) → IsFresh id did os) → P (refuse c did))
-    → ((p : Pending) → p.seq ≡ c.next
-    → P (record {
-      state = record c { next = c.next + 1; pending = Some p };
-      sent = request c p;
-      did = issue.Sent c.next;
-    }))
-    → P (begin_unless o c key a)
-begun_both P (Some p) c key a kept begun =
-    kept (issue.Busy p.seq) (λ op os. refl) (λ id os. tt)
-begun_both P None c key a kept begun =
-    let p : Pending = record { seq = c.next; key = key; ask = a } in
-    cond_both (c.next == last_number) (refuse c issue.Spent)
-    (record {
-      state = record c { next = c.next + 1; pending = Some p };
-      sent = request c p;
-      did = issue.Sent c.next;
-    }) P (λ e. kept issue.Spent (λ op os. refl) (λ id os. tt)) (λ e. begun p refl)
-
-pub issue_fresh :
-    (rack : Rack) (os : List Operation) (id : ℕ) (c : Client) (key : List ℕ) (a : Ask)
-    → (op : Op) (did : Issue)
-    → IsClient rack os id c → op.client ≡ id → did ≡ (begin_operation c key a).did
-    → IsFresh op.client did os
-issue_fresh rack os id c key a op did is named e =
-    subst (λ d. IsFresh op.client d os) (sym e)
-    (begun_both (λ (s : Step Client (Node × Packet) Issue). IsFresh op.client s.did os) c.pending c
-    key a (λ did same fresh. fresh op.client os)
-    (λ p seq. is_fresh c op.client os (is.named ∙ sym named) is.knows))
+use Rattle.peg_model.specs.Words.{Step}
+use Rattle.peg_model.specs.Packet.{Packet}
+use Rattle.peg_model.specs.Client.{Client, begin_operation}
+use Rattle.peg_model.specs.World.{World, Operation, AppliedFence, Promotion, reports, issues, new_op}
+use Rattle.peg_model.specs.World.{issue_said, after_issue}
+use Rattle.peg_pool.specs.Flight.{Flight}
+use Rattle.peg_ledger.specs.After.{issued_after}
+use Rattle.peg_ledger.specs.Kept.{IsFresh}
+use Rattle.peg_world.specs.Acting.{Acting, client_at, client_acts}
+use Rattle.peg_world.specs.Machine.{AreKept, world_of}
+use Rattle.peg_world.specs.Midway.{Midway, Came, at_place}
+use Rattle.peg_world.specs.Sound.{Each}
+use Rattle.peg_world.proofs.Asking.{begin_named}
+use Rattle.peg_world.proofs.Coming.{came}
+use Rattle.peg_world.proofs.Kept.{kept_issued}
+use Rattle.peg_world.proofs.Knowing.{KnowsAll, is_fresh, issued_length}
 
 -- ---- the book's step
 
-after_issue_is :
-    (did : Issue) (rack : Rack) (place : ℕ) (cs : List Client) (ss : List Server)
-    → (ws : List Switch) (items : List (Node × List ℕ)) (os : List Operation) (op : Op)
-    → after_issue (world_of rack place cs ss ws items os) op did
-    ≡ world_of rack place cs ss ws items (issued_after op did os)
-after_issue_is (issue.Busy seq) rack place cs ss ws items os op = refl
-after_issue_is issue.Spent rack place cs ss ws items os op = refl
-after_issue_is (issue.Sent seq) rack place cs ss ws items os op = refl
+issue_noted :
+    (did : Issue) (n : Acting) (place : ℕ) (packets : List (Node × Packet))
+    → (operations : List Operation) (fences : List AppliedFence) (promotions : List Promotion)
+    → (op : Op)
+    → after_issue (world_of n place packets operations fences promotions) op did
+    ≡ world_of n place packets (issued_after op did operations) fences promotions
+issue_noted (issue.Busy seq) n place packets operations fences promotions op = refl
+issue_noted issue.Spent n place packets operations fences promotions op = refl
+issue_noted (issue.Sent seq) n place packets operations fences promotions op = refl
 
-begin_keeps_id : (c : Client) (key : List ℕ) (a : Ask) → (begin_operation c key a).state.id ≡ c.id
-begin_keeps_id c key a =
-    begun_both (λ (s : Step Client (Node × Packet) Issue). s.state.id ≡ c.id) c.pending c key a
-    (λ did same fresh. refl) (λ p seq. refl)
+-- ---- what the issue comes to
 
-pub issues_is :
-    (rack : Rack) (place : ℕ) (cs : List Client) (ss : List Server) (ws : List Switch)
-    → (items : List (Node × List ℕ)) (os : List Operation) (id : ℕ) (key : List ℕ) (a : Ask)
-    → (c : Client)
-    → slice_get cs id ≡ Some c → c.id ≡ id → Reads
-    → are_packets rack.format (begin_operation c key a).sent ≡ true
-    → issues (world_of rack place cs ss ws items os) id key a
-    ≡ (
-      world_of rack place (slice_set cs id (begin_operation c key a).state) ss ws
-          (items ++ spelled rack.format (begin_operation c key a).sent)
-          (issued_after (new_op id key a place) (begin_operation c key a).did os),
-      record {
-        said = issue_said id a (begin_operation c key a).did;
-        sent = numbers_of (length items)
-            (length (spelled rack.format (begin_operation c key a).sent));
-      },
-    )
-issues_is rack place cs ss ws items os id key a c at named law fits =
-    let found = get_or_from_slice_get cs id c (new_client rack.format id 1) at in
-    let step : Step Client (Node × Packet) Issue = begin_operation c key a in
-    let op : Op = new_op id key a place in
-    let w : World = world_of rack place cs ss ws items os in
-    let same_id : step.state.id ≡ id = begin_keeps_id c key a ∙ named in
-    ap (λ (x : Client). reports
-    (after_issue (with_client w (begin_operation x key a).state) op (begin_operation x key a).did)
-    (begin_operation x key a).sent (issue_said id a (begin_operation x key a).did)) found
-    ∙ ap (λ i. reports
-    (after_issue (world_of rack place (slice_set cs i step.state) ss ws items os) op step.did)
-    step.sent (issue_said id a step.did)) same_id
-    ∙ ap (λ (v : World). reports v step.sent (issue_said id a step.did))
-    (after_issue_is step.did rack place (slice_set cs id step.state) ss ws items os op)
-    ∙ reports_of rack place (slice_set cs id step.state) ss ws items
-    (issued_after op step.did os) step.sent (issue_said id a step.did) law fits
+module _
+    (n0 : Acting) (before place : ℕ) (packets : List (Node × Packet)) (operations : List Operation)
+    (fences : List AppliedFence) (promotions : List Promotion) (id : ℕ) (key : List ℕ) (a : Ask)
+  where
+    abbrev step : Step Client (Node × Packet) Issue
+    step = begin_operation (client_at n0 id) key a
 
--- ---- what holds after it
+    abbrev w0 : World
+    w0 = world_of n0 before packets operations fences promotions
 
-issued_client :
-    (rack : Rack) (os : List Operation) (id : ℕ) (c : Client) (key : List ℕ) (a : Ask) (op : Op)
-    → op.answered ≡ None → IsClient rack os id c
-    → IsClient rack (issued_after op (begin_operation c key a).did os) id
-    (begin_operation c key a).state
-issued_client rack os id c key a op unanswered is =
-    begun_both
-    (λ (s : Step Client (Node × Packet) Issue).
-    IsClient rack (issued_after op s.did os) id s.state) c.pending c key a
-    (λ did same fresh. subst (λ xs. IsClient rack xs id c) (sym (same op os)) is)
-    (λ p seq. record {
-      named = is.named;
-      speaks = is.speaks;
-      asks = is.asks;
-      knows = knows_issued c p op os seq unanswered is.knows;
-    })
+    issues_are :
+        reports (world_of (client_acts n0 step) place packets
+        (issued_after (new_op id key a place) step.did operations) fences promotions) step.sent
+        (issue_said id a step.did)
+        ≡ issues (at_place w0 place) id key a
+    issues_are =
+        ap (λ w. reports w step.sent (issue_said id a step.did))
+        (sym (issue_noted step.did (client_acts n0 step) place packets operations fences promotions
+        (new_op id key a place)))
 
-issued_others :
-    (rack : Rack) (os : List Operation) (id j : ℕ) (x c : Client) (key : List ℕ) (a : Ask) (op : Op)
-    → op.client ≡ id → (j ≡ id → ⊥) → IsClient rack os j x
-    → IsClient rack (issued_after op (begin_operation c key a).did os) j x
-issued_others rack os id j x c key a op named other is =
-    begun_both
-    (λ (s : Step Client (Node × Packet) Issue). IsClient rack (issued_after op s.did os) j x)
-    c.pending c key a
-    (λ did same fresh. subst (λ xs. IsClient rack xs j x) (sym (same op os)) is)
-    (λ p seq. record {
-      named = is.named;
-      speaks = is.speaks;
-      asks = is.asks;
-      knows =
-          knows_others x op c.next os
-          (λ same. other (sym (is.named) ∙ sym same ∙ named)) is.knows;
-    })
+    pub issue_came :
+        (old now m2 : Midway) (n1 : Acting) (spare notes : ℕ) (operations2 : List Operation)
+        → (op : Op) (did : Issue) (said : Said)
+        → w0 ≡ old.world → n1 ≡ client_acts n0 step
+        → m2 ≡ record {
+          world = record (world_of n1 before packets operations fences promotions) {
+            place = place;
+          };
+          sent = n1.sent;
+          spare = spare;
+          notes = notes;
+        }
+        → now.world ≡ record m2.world { operations = operations2 } → now.sent ≡ m2.sent
+        → now.spare ≡ m2.spare
+        → operations2 ≡ issued_after op did m2.world.operations → op ≡ new_op id key a place
+        → did ≡ step.did → said ≡ issue_said id a did
+        → length packets + length n1.sent ≤ 200000 → length n1.sent ≤ spare
+        → Came old now place (issues (at_place old.world place) id key a) (Ok said)
+    issue_came old now m2 n1 spare notes operations2 op did said seen acts closed is sent room noted
+        named answered told within fits =
+        let operations_are :
+        operations2 ≡ issued_after (new_op id key a place) step.did operations =
+        noted ∙ ap (λ (m : Midway). issued_after op did m.world.operations) closed
+        ∙ ap (λ o. issued_after o did operations) named
+        ∙ ap (λ d. issued_after (new_op id key a place) d operations) answered in
+        let world_is : now.world
+        ≡ world_of (client_acts n0 step) place packets
+        (issued_after (new_op id key a place) step.did operations) fences promotions =
+        is ∙ ap (λ (m : Midway). record m.world { operations = operations2 }) closed
+        ∙ ap (λ (n : Acting). world_of n place packets operations2 fences promotions) acts
+        ∙ ap (λ os. world_of (client_acts n0 step) place packets os fences promotions)
+        operations_are in
+        let sent_is : now.sent ≡ step.sent =
+        sent ∙ ap (λ (m : Midway). m.sent) closed ∙ ap (λ (n : Acting). n.sent) acts in
+        came old now place (issues (at_place old.world place) id key a) said
+        (ap (λ w. reports w now.sent said) world_is
+        ∙ ap (λ xs. reports (world_of (client_acts n0 step) place packets
+        (issued_after (new_op id key a place) step.did operations) fences promotions) xs said)
+        sent_is
+        ∙ ap (λ s. reports (world_of (client_acts n0 step) place packets
+        (issued_after (new_op id key a place) step.did operations) fences promotions) step.sent s)
+        (told ∙ ap (issue_said id a) answered)
+        ∙ issues_are ∙ ap (λ w. issues (at_place w place) id key a) seen)
+        (omega (
+          arith,
+          within,
+          ap (λ (w : World). length w.packets) world_is,
+          ap length sent_is,
+          ap (λ (n : Acting). length n.sent) acts,
+        ))
+        (omega (
+          arith,
+          fits,
+          room,
+          ap (λ (m : Midway). m.spare) closed,
+          ap length sent_is,
+          ap (λ (n : Acting). length n.sent) acts,
+        ))
+        (ap (λ (w : World). w.place) world_is)
+        (ap (λ (w : World). w.rack) world_is ∙ ap (λ (w : World). w.rack) seen)
+        (omega (
+          arith,
+          ap (λ (w : World). length w.operations) world_is,
+          issued_length step.did operations (new_op id key a place),
+          ap (λ (w : World). length w.operations) seen,
+        ))
 
-issued_places :
-    (place before : ℕ) (os : List Operation) (c : Client) (key : List ℕ) (a : Ask) (op : Op)
-    → op.issued ≡ place → before ≤ place → AllByRecursion (λ o. o.op.issued ≤ before) os
-    → AllByRecursion (λ o. o.op.issued ≤ place) (issued_after op (begin_operation c key a).did os)
-issued_places place before os c key a op at later issued =
-    let old = issued_later before place os later issued in
-    begun_both
-    (λ (s : Step Client (Node × Packet) Issue). AllByRecursion (λ o. o.op.issued ≤ place)
-    (issued_after op s.did os)) c.pending c key a
-    (λ did same fresh. subst (AllByRecursion (λ o. o.op.issued ≤ place)) (sym (same op os)) old)
-    (λ p seq. all_more (λ o. o.op.issued ≤ place) os (record { op = op; seq = c.next; tag = 0 })
-    old (omega (arith, at)))
+    pub issue_fresh :
+        (operations2 : List Operation) (op : Op) (did : Issue)
+        → KnowsAll operations id (client_at n0 id) → operations2 ≡ operations → did ≡ step.did
+        → op.client ≡ id → IsFresh op.client did operations2
+    issue_fresh operations2 op did knows same answered named =
+        subst (λ os. IsFresh op.client did os) (sym same)
+        (subst (λ d. IsFresh op.client d operations) (sym answered)
+        (subst (λ i. IsFresh i step.did operations) (sym named)
+        (is_fresh operations id (client_at n0 id) key a knows)))
 
-pub issued_length :
-    (os : List Operation) (c : Client) (key : List ℕ) (a : Ask) (op : Op)
-    → length (issued_after op (begin_operation c key a).did os) ≤ length os + 1
-issued_length os c key a op =
-    begun_both
-    (λ (s : Step Client (Node × Packet) Issue). length (issued_after op s.did os) ≤ length os + 1)
-    c.pending c key a
-    (λ did same fresh. subst (λ xs. length xs ≤ length os + 1) (sym (same op os)) (omega arith))
-    (λ p seq. omega (
-      arith,
-      length-append os
-          (record { op = op; seq = c.next; tag = 0 } ∷ []),
-    ))
-
-pub issue_sound :
-    (rack : Rack) (place before : ℕ) (cs : List Client) (ss : List Server) (ws : List Switch)
-    → (items items' : List (Node × List ℕ)) (os : List Operation) (id : ℕ) (key : List ℕ) (a : Ask)
-    → (c : Client)
-    → slice_get cs id ≡ Some c → before < place → IsSound (world_of rack before cs ss ws items os)
-    → IsSound (world_of rack place (slice_set cs id (begin_operation c key a).state) ss ws items'
-    (issued_after (new_op id key a place) (begin_operation c key a).did os))
-issue_sound rack place before cs ss ws items items' os id key a c at later sound =
-    let op : Op = new_op id key a place in
-    let step : Step Client (Node × Packet) Issue = begin_operation c key a in
-    record {
-      limits = sound.limits;
-      clients = length-set cs id step.state ∙ sound.clients;
-      servers = sound.servers;
-      switches = sound.switches;
-      each_client =
-          each_set (IsClient rack os) (IsClient rack (issued_after op step.did os)) cs id step.state
-          sound.each_client
-          (issued_client rack os id c key a op (op_open id key a place)
-          (sound.each_client id c at))
-          (λ j x other is.
-          issued_others rack os id j x c key a op (op_client id key a place) other is);
-      each_server = sound.each_server;
-      each_switch = sound.each_switch;
-      issued =
-          issued_places place before os c key a op (op_issued id key a place)
-          (omega (arith, later)) sound.issued;
-    }
-
-pub issued_run :
-    (rack : Rack) (before place events : ℕ) (over : Bool) (cs : List Client) (ss : List Server)
-    → (ws : List Switch) (items0 items1 items2 : List (Node × List ℕ)) (os0 os2 : List Operation)
-    → (post0 post1 post2 : Outbox) (id : ℕ) (key : List ℕ) (a : Ask) (old new : Client)
-    → Reads
-    → Moved rack (begin_operation old key a).sent items0 items1 items2 post0 post1 post2
-    → AllByRecursion (IsFlown rack) items0 → length os0 ≤ events → events < 1000000
-    → before < place → IsSound (world_of rack before cs ss ws items0 os0)
-    → slice_get cs id ≡ Some old → new ≡ (begin_operation old key a).state
-    → os2 ≡ issued_after (new_op id key a place) (begin_operation old key a).did os0
-    → IsRun (world_of rack place (slice_set cs id new) ss ws items2 os2) (events + 1) over post2
-    items2
-issued_run rack before place events over cs ss ws items0 items1 items2 os0 os2 post0 post1 post2 id
-    key a old new law moved flown counted limited later sound at is told =
-    let op : Op = new_op id key a place in
-    let sound2 : IsSound (world_of rack place (slice_set cs id new) ss ws items2 os2) =
-    subst (λ xs. IsSound (world_of rack place (slice_set cs id new) ss ws items2 xs)) (sym told)
-    (subst (λ (x : Client). IsSound (world_of rack place (slice_set cs id x) ss ws items2
-    (issued_after op (begin_operation old key a).did os0))) (sym is)
-    (issue_sound rack place before cs ss ws items0 items2 os0 id key a old at later sound)) in
-    moved_run rack place events over (slice_set cs id new) ss ws os2
-    (begin_operation old key a).sent
-    items0 items1 items2 post0 post1 post2 law moved flown
-    (subst (λ xs. length xs ≤ events + 1) (sym told)
-    (omega (arith, counted, issued_length os0 old key a op))) limited sound2
-
-pub issued_ends :
-    (rack : Rack) (before place events : ℕ) (over : Bool) (cs : List Client) (ss : List Server)
-    → (ws : List Switch) (items0 items1 items2 : List (Node × List ℕ)) (os0 os2 : List Operation)
-    → (post0 post1 post2 : Outbox) (id : ℕ) (key : List ℕ) (a : Ask) (old new : Client)
-    → (now : Running) (client : ℕ) (did : Issue) (s : Said) (numbers : Option (ℕ × ℕ))
-    → Reads
-    → Moved rack (begin_operation old key a).sent items0 items1 items2 post0 post1 post2
-    → slice_get cs id ≡ Some old → old.id ≡ id → new ≡ (begin_operation old key a).state
-    → os2 ≡ issued_after (new_op id key a place) (begin_operation old key a).did os0
-    → record { world = world_of rack before cs ss ws items0 os0; events = events; is_over = over }
-    ≡ now
-    → id ≡ client → over ≡ false → did ≡ (begin_operation old key a).did
-    → s ≡ issue_said client a did → numbers ≡ numbers_of (length items1) (length post1.items)
-    → Ends now
-    (record {
-      world = world_of rack place (slice_set cs id new) ss ws items2 os2;
-      events = events + 1;
-      is_over = over;
-    })
-    (issues (at_place now.world place) client key a) (Ok (record { said = s; sent = numbers }))
-issued_ends rack before place events over cs ss ws items0 items1 items2 os0 os2 post0 post1 post2 id
-    key a old new now client did s numbers law moved at named is told seen same live answered said
-    numbered =
-    let step : Step Client (Node × Packet) Issue = begin_operation old key a in
-    let op : Op = new_op id key a place in
-    let said_is : s ≡ issue_said id a step.did =
-    said ∙ ap (λ d. issue_said client a d) answered ∙ ap (λ i. issue_said i a step.did) (sym same)
-    in
-    let start : issues (at_place now.world place) client key a
-    ≡ issues (world_of rack place cs ss ws items0 os0) id key a =
-    ap (λ (r : Running). issues (at_place r.world place) client key a) (sym seen)
-    ∙ ap (λ i. issues (world_of rack place cs ss ws items0 os0) i key a) (sym same) in
-    let line = moved_line rack place (slice_set cs id step.state) ss ws
-    (issued_after op step.did os0)
-    step.sent items0 items1 items2 post0 post1 post2
-    (issues (at_place now.world place) client key a)
-    (issue_said id a step.did) numbers moved numbered
-    (start
-    ∙ issues_is rack place cs ss ws items0 os0 id key a old at named law moved.fits) in
-    let all : issues (at_place now.world place) client key a
-    ≡ (
-      world_of rack place (slice_set cs id new) ss ws items2 os2,
-      record { said = s; sent = numbers },
-    ) =
-    line
-    ∙ ap (λ (x : Client). (
-      world_of rack place (slice_set cs id x) ss ws items2 (issued_after op step.did os0),
-      record { said = issue_said id a step.did; sent = numbers },
-    )) (sym is)
-    ∙ ap (λ os. (
-      world_of rack place (slice_set cs id new) ss ws items2 os,
-      record { said = issue_said id a step.did; sent = numbers },
-    )) (sym told)
-    ∙ ap (λ t. (
-      world_of rack place (slice_set cs id new) ss ws items2 os2,
-      record { said = t; sent = numbers },
-    )) (sym said_is) in (
-      all,
-      ap (λ (r : Running). r.events + 1) seen,
-      live,
-      moved_within rack place (slice_set cs id new) ss ws os2 step.sent items0 items1 items2 post0
-          post1 post2 (issues (at_place now.world place) client key a)
-          (record { said = s; sent = numbers }) moved all,
-    )
+    pub issue_kept :
+        (n2 : Acting) (place2 : ℕ) (flight0 flight2 : Flight)
+        → (operations2 operations3 : List Operation) (op : Op) (did : Issue)
+        → AreKept n0 before flight0 operations
+        → slice_get n0.clients id ≡ Some (client_at n0 id) → (client_at n0 id).id ≡ id
+        → before < place → AreKept n2 place2 flight2 operations2
+        → n2.clients ≡ (client_acts n0 step).clients → place2 ≡ place → operations2 ≡ operations
+        → op ≡ new_op id key a place → did ≡ step.did
+        → operations3 ≡ issued_after op did operations2
+        → AreKept n2 place2 flight2 operations3
+    issue_kept n2 place2 flight0 flight2 operations2 operations3 op did kept held named later kept2
+        clients placed same op_is answered noted =
+        let kept3 = kept_issued n0 before place flight0 operations id key a kept held
+        (begin_named (client_at n0 id) key a ∙ named) later in
+        let are : operations3 ≡ issued_after (new_op id key a place) step.did operations =
+        noted ∙ ap (issued_after op did) same ∙ ap (λ o. issued_after o did operations) op_is
+        ∙ ap (λ d. issued_after (new_op id key a place) d operations) answered in
+        record {
+          format = kept2.format;
+          flown = kept2.flown;
+          knows =
+              subst (λ cs. Each (KnowsAll operations3) cs) (sym clients)
+              (subst (λ os. Each (KnowsAll os) (client_acts n0 step).clients) (sym are)
+              kept3.knows);
+          issued =
+              subst (λ p. AllByRecursion (λ (o : Operation). o.op.issued ≤ p) operations3)
+              (sym placed)
+              (subst (AllByRecursion (λ (o : Operation). o.op.issued ≤ place)) (sym are)
+              kept3.issued);
+        }

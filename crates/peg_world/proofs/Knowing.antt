@@ -1,82 +1,44 @@
 -- What a client's pending operation says of the operations, kept by each step.
-use Rattle.std.proofs.Common.{◌≡◌, ℕ, zero, suc, ◌+◌, ◌<◌, ◌≤◌, ◌||◌, true}
-use Rattle.std.proofs.Common.{false}
-use Rattle.std.proofs.Common.{List, [], ◌∷◌, ◌++◌, refl, ap, sym, ◌∙◌, arith, subst}
-use Rattle.std.proofs.Common.{Some, None, slice_get, slice_set}
-use Rattle.std.specs.Prelude.{is_none}
+use Rattle.std.proofs.Common.{◌≡◌, ℕ, ◌+◌, ◌<◌, ◌≤◌, ◌||◌, true, false, List, [], ◌∷◌}
+use Rattle.std.proofs.Common.{refl, ap, sym, ◌∙◌, arith, Some, None}
+use Rattle.std.proofs.Common.{length, length-append}
+use Rattle.std.specs.Prelude.{is_none, IfSome}
 use Rattle.std.specs.List.{AllByRecursion, list_any}
 use Rattle.std.proofs.lemmas.Bool.{cond_both}
 use Rattle.std.proofs.lemmas.Bool.Decides.{nat_tests}
+use Rattle.std.proofs.lemmas.List.{length-map}
+use Rattle.peg_name.specs.Name.{Rack}
 use Rattle.peg_name.specs.declared.Content.{Content}
+use Rattle.peg_name.specs.declared.Content.TheVariants.{Absent}
+use Rattle.peg_name.specs.declared.Node.{Node}
 use Rattle.peg_event.specs.declared.Ask.{Ask}
 use Rattle.peg_event.specs.declared.Ask.TheVariants as ask
+use Rattle.peg_event.specs.declared.ClientDid.{ClientDid}
+use Rattle.peg_event.specs.declared.ClientDid.TheVariants as client_did
+use Rattle.peg_event.specs.declared.Issue.{Issue}
+use Rattle.peg_event.specs.declared.Issue.TheVariants as issue
 use Rattle.peg_event.specs.declared.Op.{Op}
 use Rattle.peg_event.specs.declared.Pending.{Pending}
-use Rattle.peg_model.specs.Client.{Client}
-use Rattle.peg_model.specs.World.{Operation, is_named, changed_at, answered_as, stamped_as, new_op}
-use Rattle.peg_world.specs.Sound.{IsKnown, is_pending, Each}
-use Rattle.peg_ledger.specs.Kept.{IsOpen}
+use Rattle.peg_model.specs.Words.{Step}
+use Rattle.peg_model.specs.Packet.{Packet}
+use Rattle.peg_model.specs.Client.{Client, begin_operation, client_step, give_up, give_up_of}
+use Rattle.peg_model.specs.World.{Operation, AppliedFence, is_named, changed_at, answered_as}
+use Rattle.peg_model.specs.World.{stamped_as, new_op}
+use Rattle.peg_packet.specs.Nodes.{announces_in}
+use Rattle.peg_ledger.specs.After.{issued_after, answered_after, answered_number}
+use Rattle.peg_ledger.specs.Kept.{IsOpen, IsFresh}
+use Rattle.peg_world.specs.Machine.{Knows, is_pending}
+use Rattle.peg_world.proofs.Each.{all_more, all_weaker}
+use Rattle.peg_world.proofs.Asking.{begun_both}
+use Rattle.peg_world.proofs.Taking.{taken_both}
 
--- ---- lists
-
-pub all_more :
-    {A : Type 0} (P : A → Type 0) (xs : List A) (y : A)
-    → AllByRecursion P xs → P y → AllByRecursion P (xs ++ y ∷ [])
-all_more P [] y all new = (new, tt)
-all_more P (x ∷ xs) y all new = (all.0, all_more P xs y all.1 new)
-
-pub all_weaker :
-    {A : Type 0} (P Q : A → Type 0) (xs : List A)
-    → ((x : A) → P x → Q x) → AllByRecursion P xs → AllByRecursion Q xs
-all_weaker P Q [] f all = tt
-all_weaker P Q (x ∷ xs) f all = (f x all.0, all_weaker P Q xs f all.1)
-
-pub all_changed :
-    (P Q : Operation → Type 0) (client seq : ℕ) (change : Operation → Operation)
-    → (os : List Operation)
-    → ((o : Operation) → is_named client seq o ≡ true → P o → Q (change o))
-    → ((o : Operation) → is_named client seq o ≡ false → P o → Q o)
-    → AllByRecursion P os → AllByRecursion Q (changed_at client seq change os)
-all_changed P Q client seq change [] here there all = tt
-all_changed P Q client seq change (o ∷ os) here there all = (
-  cond_both (is_named client seq o) (change o) o Q (λ e. here o e all.0)
-      (λ e. there o e all.0),
-  all_changed P Q client seq change os here there all.1,
-)
-
-some_is : {A : Type 0} (x y : A) → Some x ≡ Some y → x ≡ y
-some_is x y e = cc
-
--- an element that is set, and the others
-pub each_set :
-    {A : Type 0} (P Q : ℕ → A → Type 0) (xs : List A) (i : ℕ) (y : A)
-    → Each P xs → Q i y → ((j : ℕ) (x : A) → (j ≡ i → ⊥) → P j x → Q j x)
-    → Each Q (slice_set xs i y)
-each_set P Q [] i y each new keep = λ j x e. absurd cc
-each_set P Q (x ∷ xs) zero y each new keep = λ j z e. first j z e
-  where
-    first : (j : ℕ) (z : _) → slice_get (y ∷ xs) j ≡ Some z → Q j z
-    first zero z e = subst (Q 0) (some_is y z e) new
-    first (suc j) z e = keep (suc j) z (λ same. omega (arith, same)) (each (suc j) z e)
-each_set P Q (x ∷ xs) (suc i) y each new keep =
-    first (each_set (λ k. P (suc k)) (λ k. Q (suc k)) xs i y (λ k w f. each (suc k) w f) new
-    (λ k w other. keep (suc k) w (λ same. other (omega (arith, same)))))
-  where
-    first :
-        ((k : ℕ) (w : _) → slice_get (slice_set xs i y) k ≡ Some w → Q (suc k) w)
-        → (j : ℕ) (z : _) → slice_get (x ∷ slice_set xs i y) j ≡ Some z → Q j z
-    first rest zero z e = keep 0 z (λ same. omega (arith, same)) (each 0 z e)
-    first rest (suc j) z e = rest j z e
-
-pub each_weaker :
-    {A : Type 0} (P Q : ℕ → A → Type 0) (xs : List A)
-    → ((j : ℕ) (x : A) → P j x → Q j x) → Each P xs → Each Q xs
-each_weaker P Q xs f each = λ j x e. f j x (each j x e)
+abbrev pub KnowsAll : List Operation → ℕ → Client → Type 0
+KnowsAll os id c = AllByRecursion (Knows id c) os
 
 -- ---- names
 
-named_client : (client seq : ℕ) (o : Operation) → is_named client seq o ≡ true → o.op.client ≡
-    client
+named_client :
+    (client seq : ℕ) (o : Operation) → is_named client seq o ≡ true → o.op.client ≡ client
 named_client client seq o e = grind (arith, nat_tests, e)
 
 named_seq : (client seq : ℕ) (o : Operation) → is_named client seq o ≡ true → o.seq ≡ seq
@@ -90,130 +52,285 @@ not_named client seq o h =
     (λ e. absurd (omega (arith, named_seq client seq o e, h (named_client client seq o e))))
     (λ e. e)
 
+all_changed :
+    (P Q : Operation → Type 0) (client seq : ℕ) (change : Operation → Operation)
+    → (os : List Operation)
+    → ((o : Operation) → is_named client seq o ≡ true → P o → Q (change o))
+    → ((o : Operation) → is_named client seq o ≡ false → P o → Q o)
+    → AllByRecursion P os → AllByRecursion Q (changed_at client seq change os)
+all_changed P Q client seq change [] here there all = tt
+all_changed P Q client seq change (o ∷ os) here there all = (
+  cond_both (is_named client seq o) (change o) o Q (λ e. here o e all.0)
+      (λ e. there o e all.0),
+  all_changed P Q client seq change os here there all.1,
+)
+
 -- ---- an operation is issued
 
-pub is_fresh :
-    (c : Client) (id : ℕ) (os : List Operation)
-    → c.id ≡ id → AllByRecursion (IsKnown c) os
-    → list_any (is_named id c.next) os ≡ false
-is_fresh c id [] named knows = refl
-is_fresh c id (o ∷ os) named knows =
-    ap (λ b. b || list_any (is_named id c.next) os)
-    (not_named id c.next o (λ same. knows.0.given (same ∙ sym named)))
-    ∙ is_fresh c id os named knows.1
-
-pub op_client : (client : ℕ) (key : List ℕ) (a : Ask) (place : ℕ) →
-    (new_op client key a place).client ≡ client
+pub op_client :
+    (client : ℕ) (key : List ℕ) (a : Ask) (place : ℕ)
+    → (new_op client key a place).client ≡ client
 op_client client key ask.Read place = refl
 op_client client key (ask.Write content) place = refl
 
-pub op_open : (client : ℕ) (key : List ℕ) (a : Ask) (place : ℕ) →
-    (new_op client key a place).answered ≡ None
+pub op_open :
+    (client : ℕ) (key : List ℕ) (a : Ask) (place : ℕ)
+    → (new_op client key a place).answered ≡ None
 op_open client key ask.Read place = refl
 op_open client key (ask.Write content) place = refl
 
-pub op_issued : (client : ℕ) (key : List ℕ) (a : Ask) (place : ℕ) →
-    (new_op client key a place).issued ≡ place
+pub op_issued :
+    (client : ℕ) (key : List ℕ) (a : Ask) (place : ℕ)
+    → (new_op client key a place).issued ≡ place
 op_issued client key ask.Read place = refl
 op_issued client key (ask.Write content) place = refl
+
+fresh_in :
+    (id next : ℕ) (c : Client) (os : List Operation)
+    → next ≡ c.next → KnowsAll os id c → list_any (is_named id next) os ≡ false
+fresh_in id next c [] same knows = refl
+fresh_in id next c (o ∷ os) same knows =
+    ap (λ b. b || list_any (is_named id next) os)
+    (not_named id next o (λ is. omega (arith, same, knows.0.given is)))
+    ∙ fresh_in id next c os same knows.1
+
+pub is_fresh :
+    (os : List Operation) (id : ℕ) (c : Client) (key : List ℕ) (a : Ask)
+    → KnowsAll os id c → IsFresh id (begin_operation c key a).did os
+is_fresh os id c key a knows =
+    begun_both (λ (s : Step Client (Node × Packet) Issue). IsFresh id s.did os) c key a
+    (λ seq. tt) tt (λ p is. fresh_in id c.next c os refl knows)
 
 pending_is : (p : Pending) (seq : ℕ) → is_pending (Some p) seq ≡ true → p.seq ≡ seq
 pending_is p seq e = grind (arith, nat_tests, e)
 
--- the client that issued knows the operations before and the new one
-pub knows_issued :
-    (c : Client) (p : Pending) (op : Op) (os : List Operation)
-    → p.seq ≡ c.next → op.answered ≡ None → AllByRecursion (IsKnown c) os
-    → AllByRecursion (IsKnown (record c { next = c.next + 1; pending = Some p }))
-    (os ++ record { op = op; seq = c.next; tag = 0 } ∷ [])
-knows_issued c p op os seq unanswered knows =
-    let c' : Client = record c { next = c.next + 1; pending = Some p } in
-    all_more (IsKnown c') os (record { op = op; seq = c.next; tag = 0 })
-    (all_weaker (IsKnown c) (IsKnown c') os
+-- the client knows the operations before
+pub knows_begun :
+    (os : List Operation) (id : ℕ) (c : Client) (key : List ℕ) (a : Ask)
+    → KnowsAll os id c → KnowsAll os id (begin_operation c key a).state
+knows_begun os id c key a knows =
+    begun_both (λ (s : Step Client (Node × Packet) Issue). KnowsAll os id s.state) c key a
+    (λ seq. knows) knows
+    (λ p is. all_weaker (Knows id c)
+    (Knows id (record c { next = c.next + 1; pending = Some p })) os
     (λ o k. record {
       given = λ same. omega (arith, k.given same);
-      open_one =
-          λ same e. absurd (omega (arith, pending_is p o.seq e, seq, k.given same));
+      open_one = λ same e. absurd (omega (arith, pending_is p o.seq e, is, k.given same));
     }) knows)
-    (record { given = λ same. omega arith; open_one = λ same e. unanswered })
 
--- and the others know no more of it
-pub knows_others :
-    (x : Client) (op : Op) (seq : ℕ) (os : List Operation)
-    → (op.client ≡ x.id → ⊥) → AllByRecursion (IsKnown x) os
-    → AllByRecursion (IsKnown x) (os ++ record { op = op; seq = seq; tag = 0 } ∷ [])
-knows_others x op seq os other knows =
-    all_more (IsKnown x) os (record { op = op; seq = seq; tag = 0 }) knows
-    (record { given = λ same. absurd (other same); open_one = λ same e. absurd (other same) })
+-- and the new one
+pub knows_issued :
+    (os : List Operation) (id : ℕ) (c : Client) (key : List ℕ) (a : Ask) (op : Op)
+    → op.answered ≡ None → KnowsAll os id c
+    → KnowsAll (issued_after op (begin_operation c key a).did os) id
+    (begin_operation c key a).state
+knows_issued os id c key a op unanswered knows =
+    begun_both
+    (λ (s : Step Client (Node × Packet) Issue). KnowsAll os id s.state
+    → KnowsAll (issued_after op s.did os) id s.state) c key a
+    (λ seq h. h) (λ h. h)
+    (λ p is h. all_more (Knows id (record c { next = c.next + 1; pending = Some p })) os
+    (record { op = op; seq = c.next; tag = 0 }) h
+    (record { given = λ same. omega arith; open_one = λ same e. unanswered }))
+    (knows_begun os id c key a knows)
+
+-- the others know no more of it
+pub others_issued :
+    (did : Issue) (os : List Operation) (op : Op) (id j : ℕ) (x : Client)
+    → op.client ≡ id → (j ≡ id → ⊥) → KnowsAll os j x → KnowsAll (issued_after op did os) j x
+others_issued (issue.Busy seq) os op id j x named other knows = knows
+others_issued issue.Spent os op id j x named other knows = knows
+others_issued (issue.Sent seq) os op id j x named other knows =
+    all_more (Knows j x) os (record { op = op; seq = seq; tag = 0 }) knows
+    (record {
+      given = λ same. absurd (other (sym same ∙ named));
+      open_one = λ same e. absurd (other (sym same ∙ named));
+    })
+
+pub issued_more :
+    (did : Issue) (os : List Operation) (op : Op) (before place : ℕ)
+    → op.issued ≤ place → before ≤ place → AllByRecursion (λ o. o.op.issued ≤ before) os
+    → AllByRecursion (λ o. o.op.issued ≤ place) (issued_after op did os)
+issued_more (issue.Busy seq) os op before place new later issued =
+    all_weaker (λ o. o.op.issued ≤ before) (λ o. o.op.issued ≤ place) os
+    (λ o h. omega (arith, h, later)) issued
+issued_more issue.Spent os op before place new later issued =
+    all_weaker (λ o. o.op.issued ≤ before) (λ o. o.op.issued ≤ place) os
+    (λ o h. omega (arith, h, later)) issued
+issued_more (issue.Sent seq) os op before place new later issued =
+    all_more (λ o. o.op.issued ≤ place) os (record { op = op; seq = seq; tag = 0 })
+    (all_weaker (λ o. o.op.issued ≤ before) (λ o. o.op.issued ≤ place) os
+    (λ o h. omega (arith, h, later)) issued) new
+
+pub issued_length :
+    (did : Issue) (os : List Operation) (op : Op)
+    → length (issued_after op did os) ≤ length os + 1
+issued_length (issue.Busy seq) os op = omega arith
+issued_length issue.Spent os op = omega arith
+issued_length (issue.Sent seq) os op =
+    omega (arith, length-append os (record { op = op; seq = seq; tag = 0 } ∷ []))
+
+-- ---- a request is sent again, or an operation given up
+
+knows_idle :
+    (os : List Operation) (id : ℕ) (c : Client)
+    → KnowsAll os id c → KnowsAll os id (record c { pending = None })
+knows_idle os id c knows =
+    all_weaker (Knows id c) (Knows id (record c { pending = None })) os
+    (λ o k. record { given = k.given; open_one = λ same e. absurd cc }) knows
+
+pub knows_given_up :
+    (os : List Operation) (id : ℕ) (c : Client)
+    → KnowsAll os id c → KnowsAll os id (give_up c).state
+knows_given_up os id c knows = first c.pending
+  where
+    first : (o : _) → KnowsAll os id (give_up_of o c).state
+    first (Some p) = knows_idle os id c knows
+    first None = knows
 
 -- ---- a stamp
 
-known_stamped : (x : Client) (o : Operation) (version : ℕ) → IsKnown x o → IsKnown x
-    (stamped_as version o)
-known_stamped x o version k =
-    cond_both (is_none o.op.answered) (record o { tag = version }) o (IsKnown x)
+known_stamped :
+    (id : ℕ) (x : Client) (o : Operation) (version : ℕ)
+    → Knows id x o → Knows id x (stamped_as version o)
+known_stamped id x o version k =
+    cond_both (is_none o.op.answered) (record o { tag = version }) o (Knows id x)
     (λ e. record { given = k.given; open_one = k.open_one }) (λ e. k)
 
 pub knows_stamped :
-    (x : Client) (client seq version : ℕ) (os : List Operation)
-    → AllByRecursion (IsKnown x) os
-    → AllByRecursion (IsKnown x) (changed_at client seq (stamped_as version) os)
-knows_stamped x client seq version os knows =
-    all_changed (IsKnown x) (IsKnown x) client seq (stamped_as version) os
-    (λ o e k. known_stamped x o version k) (λ o e k. k) knows
+    (client seq version : ℕ) (os : List Operation) (id : ℕ) (x : Client)
+    → KnowsAll os id x → KnowsAll (changed_at client seq (stamped_as version) os) id x
+knows_stamped client seq version os id x knows =
+    all_changed (Knows id x) (Knows id x) client seq (stamped_as version) os
+    (λ o e k. known_stamped id x o version k) (λ o e k. k) knows
+
+issued_as_stamped :
+    (place version : ℕ) (o : Operation)
+    → o.op.issued ≤ place → (stamped_as version o).op.issued ≤ place
+issued_as_stamped place version o h =
+    cond_both (is_none o.op.answered) (record o { tag = version }) o (λ x. x.op.issued ≤ place)
+    (λ e. h) (λ e. h)
+
+pub issued_stamped :
+    (client seq version place : ℕ) (os : List Operation)
+    → AllByRecursion (λ o. o.op.issued ≤ place) os
+    → AllByRecursion (λ o. o.op.issued ≤ place) (changed_at client seq (stamped_as version) os)
+issued_stamped client seq version place os issued =
+    all_changed (λ o. o.op.issued ≤ place) (λ o. o.op.issued ≤ place) client seq
+    (stamped_as version) os (λ o e h. issued_as_stamped place version o h) (λ o e h. h) issued
 
 -- ---- an answer
 
--- nothing is pending any more
-pub known_idle : (c : Client) (o : Operation) → IsKnown c o → IsKnown (record c { pending = None })
-    o
-known_idle c o k = record { given = k.given; open_one = λ same e. absurd cc }
-
-pub knows_idle :
-    (c : Client) (os : List Operation)
-    → AllByRecursion (IsKnown c) os → AllByRecursion (IsKnown (record c { pending = None })) os
-knows_idle c os knows =
-    all_weaker (IsKnown c) (IsKnown (record c { pending = None })) os (known_idle c) knows
-
-pub knows_answered :
-    (c : Client) (client seq place version : ℕ) (content : Content) (os : List Operation)
-    → AllByRecursion (IsKnown c) os
-    → AllByRecursion (IsKnown (record c { pending = None }))
-    (changed_at client seq (answered_as [] place version content) os)
-knows_answered c client seq place version content os knows =
-    all_changed (IsKnown c) (IsKnown (record c { pending = None })) client seq
-    (answered_as [] place version content) os
-    (λ o e k. record { given = k.given; open_one = λ same f. absurd cc })
-    (λ o e k. known_idle c o k) knows
-
-pub knows_others_answer :
-    (x : Client) (client seq place version : ℕ) (content : Content) (os : List Operation)
-    → (client ≡ x.id → ⊥) → AllByRecursion (IsKnown x) os
-    → AllByRecursion (IsKnown x)
-    (changed_at client seq (answered_as [] place version content) os)
-knows_others_answer x client seq place version content os other knows =
-    all_changed (IsKnown x) (IsKnown x) client seq (answered_as [] place version content) os
-    (λ o e k. record {
-      given = k.given;
-      open_one = λ same f. absurd (other (sym (named_client client seq o e) ∙ same));
-    })
-    (λ o e k. k) knows
-
--- the operation of the pending number is open, and was issued before
-pub is_open :
-    (c : Client) (id seq before place : ℕ) (os : List Operation)
-    → c.id ≡ id → is_pending c.pending seq ≡ true → before < place
-    → AllByRecursion (IsKnown c) os → AllByRecursion (λ o. o.op.issued ≤ before) os
-    → IsOpen id seq place os
-is_open c id seq before place [] named pending later knows issued = tt
-is_open c id seq before place (o ∷ os) named pending later knows issued = (
+opens_in :
+    (os : List Operation) (c : Client) (id seq before place : ℕ)
+    → is_pending c.pending seq ≡ true → before < place → KnowsAll os id c
+    → AllByRecursion (λ o. o.op.issued ≤ before) os → IsOpen id seq place os
+opens_in [] c id seq before place pending later knows issued = tt
+opens_in (o ∷ os) c id seq before place pending later knows issued = (
   λ e. (
-    knows.0.open_one (named_client id seq o e ∙ sym named)
+    knows.0.open_one (named_client id seq o e)
         (ap (is_pending c.pending) (named_seq id seq o e) ∙ pending),
     omega (arith, issued.0, later),
   ),
-  is_open c id seq before place os named pending later knows.1 issued.1,
+  opens_in os c id seq before place pending later knows.1 issued.1,
 )
+
+-- the operation that a client takes an answer to is open, and was issued before
+pub is_open :
+    (rack : Rack) (os : List Operation) (id before place : ℕ) (c : Client) (p : Packet)
+    → announces_in rack p ≡ true → before < place → KnowsAll os id c
+    → AllByRecursion (λ o. o.op.issued ≤ before) os
+    → IfSome (answered_number (client_step c p).did) (λ seq. IsOpen id seq place os)
+is_open rack os id before place c p goes later knows issued =
+    taken_both
+    (λ (s : Step Client (Node × Packet) ClientDid).
+    IfSome (answered_number s.did) (λ seq. IsOpen id seq place os)) rack c p goes tt
+    (λ seq version pending. opens_in os c id seq before place pending later knows issued)
+    (λ seq version content pending. opens_in os c id seq before place pending later knows issued)
+    (λ epoch switch small. tt)
+
+pub knows_taken :
+    (rack : Rack) (os : List Operation) (id : ℕ) (c : Client) (p : Packet)
+    → announces_in rack p ≡ true → KnowsAll os id c → KnowsAll os id (client_step c p).state
+knows_taken rack os id c p goes knows =
+    taken_both (λ (s : Step Client (Node × Packet) ClientDid). KnowsAll os id s.state) rack c p
+    goes knows
+    (λ seq version e. knows_idle os id c knows) (λ seq version content e. knows_idle os id c knows)
+    (λ epoch switch small.
+    all_weaker (Knows id c) (Knows id (record c { switch = switch; epoch = epoch })) os
+    (λ o k. record { given = k.given; open_one = k.open_one }) knows)
+
+knows_changed :
+    (fences : List AppliedFence) (os : List Operation) (id seq place version : ℕ)
+    → (content : Content) (c : Client)
+    → KnowsAll os id c
+    → KnowsAll (changed_at id seq (answered_as fences place version content) os) id
+    (record c { pending = None })
+knows_changed fences os id seq place version content c knows =
+    all_changed (Knows id c) (Knows id (record c { pending = None })) id seq
+    (answered_as fences place version content) os
+    (λ o e k. record { given = k.given; open_one = λ same f. absurd cc })
+    (λ o e k. record { given = k.given; open_one = λ same f. absurd cc }) knows
+
+pub knows_answered :
+    (rack : Rack) (fences : List AppliedFence) (os : List Operation) (id place : ℕ)
+    → (c : Client) (p : Packet)
+    → announces_in rack p ≡ true → KnowsAll os id c
+    → KnowsAll (answered_after fences place id (client_step c p).did os) id (client_step c p).state
+knows_answered rack fences os id place c p goes knows =
+    taken_both
+    (λ (s : Step Client (Node × Packet) ClientDid).
+    KnowsAll (answered_after fences place id s.did os) id s.state) rack c p goes knows
+    (λ seq version e. knows_changed fences os id seq place version Absent c knows)
+    (λ seq version given e. knows_changed fences os id seq place version given c knows)
+    (λ epoch switch small.
+    all_weaker (Knows id c) (Knows id (record c { switch = switch; epoch = epoch })) os
+    (λ o k. record { given = k.given; open_one = k.open_one }) knows)
+
+others_changed :
+    (fences : List AppliedFence) (os : List Operation) (id seq place version : ℕ)
+    → (content : Content) (j : ℕ) (x : Client)
+    → (j ≡ id → ⊥) → KnowsAll os j x
+    → KnowsAll (changed_at id seq (answered_as fences place version content) os) j x
+others_changed fences os id seq place version content j x other knows =
+    all_changed (Knows j x) (Knows j x) id seq (answered_as fences place version content) os
+    (λ o e k. record {
+      given = k.given;
+      open_one = λ same f. absurd (other (sym same ∙ named_client id seq o e));
+    })
+    (λ o e k. k) knows
+
+pub others_answered :
+    (did : ClientDid) (fences : List AppliedFence) (os : List Operation) (id place j : ℕ)
+    → (x : Client)
+    → (j ≡ id → ⊥) → KnowsAll os j x → KnowsAll (answered_after fences place id did os) j x
+others_answered (client_did.Wrote seq version) fences os id place j x other knows =
+    others_changed fences os id seq place version Absent j x other knows
+others_answered (client_did.Read seq version given) fences os id place j x other knows =
+    others_changed fences os id seq place version given j x other knows
+others_answered (client_did.Moved switch epoch) fences os id place j x other knows = knows
+others_answered client_did.Ignored fences os id place j x other knows = knows
+
+pub issued_answered :
+    (did : ClientDid) (fences : List AppliedFence) (os : List Operation) (id at place : ℕ)
+    → AllByRecursion (λ o. o.op.issued ≤ place) os
+    → AllByRecursion (λ o. o.op.issued ≤ place) (answered_after fences at id did os)
+issued_answered (client_did.Wrote seq version) fences os id at place issued =
+    all_changed (λ o. o.op.issued ≤ place) (λ o. o.op.issued ≤ place) id seq
+    (answered_as fences at version Absent) os (λ o e h. h) (λ o e h. h) issued
+issued_answered (client_did.Read seq version given) fences os id at place issued =
+    all_changed (λ o. o.op.issued ≤ place) (λ o. o.op.issued ≤ place) id seq
+    (answered_as fences at version given) os (λ o e h. h) (λ o e h. h) issued
+issued_answered (client_did.Moved switch epoch) fences os id at place issued = issued
+issued_answered client_did.Ignored fences os id at place issued = issued
+
+pub answered_length :
+    (did : ClientDid) (fences : List AppliedFence) (os : List Operation) (id at : ℕ)
+    → length (answered_after fences at id did os) ≡ length os
+answered_length (client_did.Wrote seq version) fences os id at = length-map os _
+answered_length (client_did.Read seq version given) fences os id at = length-map os _
+answered_length (client_did.Moved switch epoch) fences os id at = refl
+answered_length client_did.Ignored fences os id at = refl
 
 -- ---- the places of issue
 
@@ -224,28 +341,3 @@ pub issued_later :
 issued_later before place os later issued =
     all_weaker (λ o. o.op.issued ≤ before) (λ o. o.op.issued ≤ place) os
     (λ o h. omega (arith, h, later)) issued
-
-pub issued_answered :
-    (place client seq at version : ℕ) (content : Content) (os : List Operation)
-    → AllByRecursion (λ o. o.op.issued ≤ place) os
-    → AllByRecursion (λ o. o.op.issued ≤ place)
-    (changed_at client seq (answered_as [] at version content) os)
-issued_answered place client seq at version content os issued =
-    all_changed (λ o. o.op.issued ≤ place) (λ o. o.op.issued ≤ place) client seq
-    (answered_as [] at version content) os (λ o e h. h) (λ o e h. h) issued
-
-issued_as_stamped :
-    (place version : ℕ) (o : Operation) → o.op.issued ≤ place
-    → (stamped_as version o).op.issued ≤ place
-issued_as_stamped place version o h =
-    cond_both (is_none o.op.answered) (record o { tag = version }) o (λ x. x.op.issued ≤ place)
-    (λ e. h) (λ e. h)
-
-pub issued_stamped :
-    (place client seq version : ℕ) (os : List Operation)
-    → AllByRecursion (λ o. o.op.issued ≤ place) os
-    → AllByRecursion (λ o. o.op.issued ≤ place)
-    (changed_at client seq (stamped_as version) os)
-issued_stamped place client seq version os issued =
-    all_changed (λ o. o.op.issued ≤ place) (λ o. o.op.issued ≤ place) client seq
-    (stamped_as version) os (λ o e h. issued_as_stamped place version o h) (λ o e h. h) issued

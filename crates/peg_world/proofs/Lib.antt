@@ -1,12 +1,17 @@
-mod Flights
-mod Nodes
-mod Flying
-mod Sends
-mod Knowing
-mod Issuing
-mod Moving
-mod Calls
-mod Handing
-mod Answering
-mod Serving
-mod Switching
+pub mod Made
+pub mod Each
+pub mod Flying
+pub mod Acted
+pub mod Asking
+pub mod Started
+pub mod Taking
+pub mod Knowing
+pub mod Kept
+pub mod Coming
+pub mod Handing
+pub mod Calls
+pub mod Issuing
+pub mod Answering
+pub mod Distinct
+pub mod Delivering
+pub mod Switching

@@ -1,270 +1,146 @@
--- A packet is handed to a switch.
-use Rattle.std.proofs.Common.{◌≡◌, ℕ, ◌+◌, ◌<◌, ◌≤◌, Bool, true, false, List, [], ◌++◌, Option}
-use Rattle.std.proofs.Common.{Some, None, length, refl, ap, sym, ◌∙◌, arith, subst, map, slice_get}
-use Rattle.std.proofs.Common.{slice_set}
-use Rattle.std.specs.Prelude.{Ok}
-use Rattle.std.specs.List.{AllByRecursion}
-use Rattle.std.proofs.lemmas.List.{length-set, length-map}
-use Rattle.std.proofs.lemmas.Option.{get_or_from_slice_get}
-use Rattle.peg_name.specs.Name.{Rack, InLimits}
-use Rattle.peg_name.specs.declared.Content.{Content}
+-- A packet that is handed to a switch, and what is noted of it.
+use Rattle.std.proofs.Common.{◌≡◌, ℕ, ◌≤◌, List, ◌++◌, length, ap, sym, ◌∙◌, refl, arith}
+use Rattle.std.proofs.Common.{Some, None, Option, length-append}
+use Rattle.std.specs.Prelude.{Ok, Err}
+use Rattle.std.proofs.lemmas.List.{length-map}
 use Rattle.peg_name.specs.declared.Node.{Node}
-use Rattle.peg_name.specs.declared.Node.TheVariants as node
+use Rattle.peg_event.specs.declared.Line.{Line}
+use Rattle.peg_event.specs.declared.Outcome.TheVariants.{Listed}
+use Rattle.peg_event.specs.declared.Said.{Said}
+use Rattle.peg_event.specs.declared.Said.TheVariants as said
 use Rattle.peg_event.specs.declared.SwitchDid.{SwitchDid}
 use Rattle.peg_event.specs.declared.SwitchDid.TheVariants as switch_did
-use Rattle.peg_event.specs.declared.Line.{Line}
-use Rattle.peg_event.specs.declared.Said.TheVariants as said
-use Rattle.peg_model.specs.Packet as packet
-use Rattle.peg_model.specs.Packet.{Packet}
-use Rattle.peg_model.specs.Client.{Client}
-use Rattle.peg_model.specs.Server.{Server}
-use Rattle.peg_model.specs.Switch.{Switch, SwitchStep, new_switch, switch_step}
-use Rattle.peg_model.specs.World.{World, Operation, reports, delivers_item, after_switch}
-use Rattle.peg_model.specs.World.{with_switch}
-use Rattle.peg_packet.specs.Outbox.{Outbox}
-use Rattle.peg_world.specs.Running.{Running, Ends, at_place}
-use Rattle.peg_world.specs.Sound.{IsSound, IsRun, IsClient, IsSwitch, world_of, packet_in}
-use Rattle.peg_world.specs.Sound.{is_sent_so_far}
-use Rattle.peg_world.specs.Sends.{numbers_of}
-use Rattle.peg_world.specs.Steps.{FineSwitch}
-use Rattle.peg_ledger.specs.After.{stamped_by, stamped_after}
-use Rattle.peg_world.proofs.Flying.{Reads, reports_of}
-use Rattle.peg_world.proofs.Handing.{packet_at}
-use Rattle.peg_world.proofs.Knowing.{each_set, each_weaker, issued_later, issued_stamped}
-use Rattle.peg_world.proofs.Knowing.{knows_stamped}
-use Rattle.peg_world.proofs.Moving.{Moved, moved_run, moved_line, moved_within}
-use Rattle.peg_world.proofs.Sends.{fine_switch}
+use Rattle.peg_model.specs.Packet.{Packet, Write, Command, Promote}
+use Rattle.peg_model.specs.Rules.{base_of}
+use Rattle.peg_model.specs.Switch.{Switch, SwitchStep, switch_step}
+use Rattle.peg_model.specs.World.{World, Operation, AppliedFence, Promotion, reports, switch_stepped}
+use Rattle.peg_model.specs.World.{switch_of, after_switch, promoted}
+use Rattle.peg_world.specs.declared.Halt.{Halt}
+use Rattle.peg_world.specs.declared.saying.Note.{Note}
+use Rattle.peg_world.specs.declared.saying.Note.TheVariants as note
+use Rattle.peg_world.specs.Acting.{Acting, switch_at, switch_acts}
+use Rattle.peg_world.specs.Machine.{world_of}
+use Rattle.peg_world.specs.Midway.{Midway, Came, Closes, at_place}
+use Rattle.peg_world.specs.Notes.{note_by, noted}
+use Rattle.peg_world.proofs.Coming.{came, stops}
 
-pub is_fine :
-    (rack : Rack) (id : ℕ) (s : Switch) (p : Packet) (pick : ℕ)
-    → InLimits rack → is_sent_so_far p ≡ true → IsSwitch rack id s
-    → FineSwitch rack id (switch_step s p pick)
-is_fine rack id s p pick limits far is =
-    subst (λ i. FineSwitch rack i (switch_step s p pick)) is.named
-    (subst (λ (r : Rack). FineSwitch r s.id (switch_step s p pick)) is.racked
-    (fine_switch s p pick (subst InLimits (sym is.racked) limits) far is.unlisted))
+-- ---- the book's step
 
--- ---- what a switch's step makes of the operations
+noted_is :
+    (p : Packet) (did : SwitchDid) (w : World) (s : Switch)
+    → after_switch w s p did ≡ noted w s (note_by p did)
+noted_is (Write client seq key content) (switch_did.Wrote server written version) w s = refl
+noted_is (Write client seq key content) _ w s = refl
+noted_is (Command number (Promote key)) (switch_did.Applied applied (Listed listing)) w s = refl
+noted_is (Command number (Promote key)) (switch_did.Applied applied _) w s = refl
+noted_is (Command number (Promote key)) _ w s = refl
+noted_is (Command number _) did w s = refl
+noted_is _ did w s = refl
 
-after_write :
-    (did : SwitchDid) (rack : Rack) (place : ℕ) (cs : List Client) (ss : List Server)
-    → (ws : List Switch) (items : List (Node × List ℕ)) (os : List Operation) (s : Switch)
-    → (client seq : ℕ) (key : List ℕ) (content : Content)
-    → after_switch (world_of rack place cs ss ws items os) s (packet.Write client seq key content)
-    did
-    ≡ world_of rack place cs ss ws items
-    (stamped_after (stamped_by (packet.Write client seq key content) did) os)
-after_write (switch_did.Wrote server written version) rack place cs ss ws items os s client seq key
-    content = refl
-after_write _ rack place cs ss ws items os s client seq key content = refl
+record Alike (w v : World) : Type 0 where
+  packets : v.packets ≡ w.packets
+  place : v.place ≡ w.place
+  rack : v.rack ≡ w.rack
+  operations : length v.operations ≡ length w.operations
 
-after_switch_is :
-    (p : Packet) (rack : Rack) (place : ℕ) (cs : List Client) (ss : List Server) (ws : List Switch)
-    → (items : List (Node × List ℕ)) (os : List Operation) (s : Switch) (did : SwitchDid)
-    → is_sent_so_far p ≡ true
-    → after_switch (world_of rack place cs ss ws items os) s p did
-    ≡ world_of rack place cs ss ws items (stamped_after (stamped_by p did) os)
-after_switch_is (packet.Write client seq key content) rack place cs ss ws items os s did far =
-    after_write did rack place cs ss ws items os s client seq key content
-after_switch_is (packet.Command number what) rack place cs ss ws items os s did far = absurd cc
-after_switch_is _ rack place cs ss ws items os s did far = refl
+promoted_alike : (base : Option ℕ) (w : World) (key : List ℕ) → Alike w (promoted w key base)
+promoted_alike None w key =
+    record { packets = refl; place = refl; rack = refl; operations = refl }
+promoted_alike (Some version) w key =
+    record { packets = refl; place = refl; rack = refl; operations = refl }
 
--- ---- the book's step, up to what it reports
+noted_alike : (n : Note) (w : World) (s : Switch) → Alike w (noted w s n)
+noted_alike (note.Stamped client seq version) w s =
+    record { packets = refl; place = refl; rack = refl; operations = length-map w.operations _ }
+noted_alike (note.Listed key) w s = promoted_alike (base_of s.entries key) w key
+noted_alike note.Nothing w s =
+    record { packets = refl; place = refl; rack = refl; operations = refl }
 
-delivered :
-    (rack : Rack) (before place events : ℕ) (over : Bool) (cs : List Client) (ss : List Server)
-    → (ws : List Switch) (items : List (Node × List ℕ)) (os : List Operation) (number pick : ℕ)
-    → (item : Node × List ℕ) (id switch : ℕ) (old : Switch) (now : Running)
-    → record { world = world_of rack before cs ss ws items os; events = events; is_over = over } ≡
-    now
-    → slice_get items number ≡ Some item → item.0 ≡ node.Switch switch → id ≡ switch
-    → slice_get ws id ≡ Some old → is_sent_so_far (packet_in item).1 ≡ true
-    → FineSwitch rack id (switch_step old (packet_in item).1 pick)
-    → delivers_item (at_place now.world place) number (slice_get now.world.packets number) pick
-    ≡ reports
-    (world_of rack place cs ss
-    (slice_set ws id (switch_step old (packet_in item).1 pick).state) items
-    (stamped_after
-    (stamped_by (packet_in item).1 (switch_step old (packet_in item).1 pick).did) os))
-    (switch_step old (packet_in item).1 pick).sent
-    (said.Switch id (switch_step old (packet_in item).1 pick).did)
-delivered rack before place events over cs ss ws items os number pick item id switch old now seen
-    held
-    to same at far fine =
-    let p : Packet = (packet_in item).1 in
-    let step : SwitchStep = switch_step old p pick in
-    let w : World = world_of rack place cs ss ws items os in
-    let found = get_or_from_slice_get ws id old (new_switch rack [] id) at in
-    ap (λ (r : Running). delivers_item (at_place r.world place) number
-    (slice_get r.world.packets number) pick) (sym seen)
-    ∙ ap (λ o. delivers_item w number o pick) (packet_at items number item held)
-    ∙ ap (λ n. delivers_item w number (Some (n, p)) pick) (to ∙ ap node.Switch (sym same))
-    ∙ ap (λ (x : Switch). reports
-    (after_switch (with_switch w (switch_step x p pick).state) (switch_step x p pick).state p
-    (switch_step x p pick).did)
-    (switch_step x p pick).sent (said.Switch id (switch_step x p pick).did)) found
-    ∙ ap (λ i. reports
-    (after_switch (world_of rack place cs ss (slice_set ws i step.state) items os) step.state p
-    step.did)
-    step.sent (said.Switch id step.did)) fine.named
-    ∙ ap (λ (v : World). reports v step.sent (said.Switch id step.did))
-    (after_switch_is p rack place cs ss (slice_set ws id step.state) items os step.state step.did
-    far)
+-- ---- what the delivery comes to
 
-pub switch_ends :
-    (rack : Rack) (before place events : ℕ) (over : Bool) (cs : List Client) (ss : List Server)
-    → (ws : List Switch) (items0 items1 items2 : List (Node × List ℕ)) (os os' : List Operation)
-    → (post0 post1 post2 : Outbox) (number pick : ℕ) (item : Node × List ℕ) (id switch : ℕ)
-    → (old new : Switch) (now : Running) (did : SwitchDid) (numbers : Option (ℕ × ℕ))
-    → Reads
-    → Moved rack (switch_step old (packet_in item).1 pick).sent items0 items1 items2 post0 post1
-    post2
-    → record { world = world_of rack before cs ss ws items0 os; events = events; is_over = over } ≡
-    now
-    → over ≡ false → slice_get items0 number ≡ Some item → item.0 ≡ node.Switch switch → id ≡ switch
-    → slice_get ws id ≡ Some old → is_sent_so_far (packet_in item).1 ≡ true
-    → FineSwitch rack id (switch_step old (packet_in item).1 pick)
-    → new ≡ (switch_step old (packet_in item).1 pick).state
-    → did ≡ (switch_step old (packet_in item).1 pick).did
-    → os' ≡ stamped_after (stamped_by (packet_in item).1 did) os
-    → numbers ≡ numbers_of (length items1) (length post1.items)
-    → Ends now
-    (record {
-      world = world_of rack place cs ss (slice_set ws id new) items2 os';
-      events = events + 1;
-      is_over = over;
-    })
-    (delivers_item (at_place now.world place) number (slice_get now.world.packets number) pick)
-    (Ok (record { said = said.Switch switch did; sent = numbers }))
-switch_ends rack before place events over cs ss ws items0 items1 items2 os os' post0 post1 post2
-    number
-    pick item id switch old new now did numbers law moved seen live held to same at far fine is
-    answered told numbered =
-    let p : Packet = (packet_in item).1 in
-    let step : SwitchStep = switch_step old p pick in
-    let os1 : List Operation = stamped_after (stamped_by p step.did) os in
-    let after : World × Line =
-    delivers_item (at_place now.world place) number (slice_get now.world.packets number) pick in
-    let os_is : os' ≡ os1 = told ∙ ap (λ d. stamped_after (stamped_by p d) os) answered in
-    let line = moved_line rack place cs ss (slice_set ws id step.state) os1 step.sent items0 items1
-    items2 post0 post1 post2 after (said.Switch id step.did) numbers moved numbered
-    (delivered rack before place events over cs ss ws items0 os number pick item id switch old now
-    seen held to same at far fine
-    ∙ reports_of rack place cs ss (slice_set ws id step.state) items0 os1 step.sent
-    (said.Switch id step.did) law moved.fits) in
-    let all : after
-    ≡ (
-      world_of rack place cs ss (slice_set ws id new) items2 os',
-      record { said = said.Switch switch did; sent = numbers },
-    ) =
-    line
-    ∙ ap (λ (x : Switch). (
-      world_of rack place cs ss (slice_set ws id x) items2 os1,
-      record { said = said.Switch id step.did; sent = numbers },
-    )) (sym is)
-    ∙ ap (λ d. (
-      world_of rack place cs ss (slice_set ws id new) items2 os1,
-      record { said = said.Switch id d; sent = numbers },
-    )) (sym answered)
-    ∙ ap (λ i. (
-      world_of rack place cs ss (slice_set ws id new) items2 os1,
-      record { said = said.Switch i did; sent = numbers },
-    )) same
-    ∙ ap (λ xs. (
-      world_of rack place cs ss (slice_set ws id new) items2 xs,
-      record { said = said.Switch switch did; sent = numbers },
-    )) (sym os_is) in (
-      all,
-      ap (λ (r : Running). r.events + 1) seen,
-      live,
-      moved_within rack place cs ss (slice_set ws id new) os' step.sent items0 items1 items2 post0
-          post1 post2 after (record { said = said.Switch switch did; sent = numbers }) moved all,
-    )
+module _
+    (n0 n1 : Acting) (before place : ℕ) (packets : List (Node × Packet))
+    (operations : List Operation) (fences : List AppliedFence) (promotions : List Promotion)
+    (id : ℕ) (p : Packet) (pick : ℕ) (old now : Midway) (spare notes : ℕ)
+  where
+    abbrev step : SwitchStep
+    step = switch_step (switch_at n0 id) p pick
 
--- the packets after it
-pub switch_packets :
-    (rack : Rack) (before place events : ℕ) (over : Bool) (cs : List Client) (ss : List Server)
-    → (ws : List Switch) (items : List (Node × List ℕ)) (os : List Operation) (number pick : ℕ)
-    → (item : Node × List ℕ) (id switch : ℕ) (old : Switch) (now : Running)
-    → record { world = world_of rack before cs ss ws items os; events = events; is_over = over } ≡
-    now
-    → slice_get items number ≡ Some item → item.0 ≡ node.Switch switch → id ≡ switch
-    → slice_get ws id ≡ Some old → is_sent_so_far (packet_in item).1 ≡ true
-    → FineSwitch rack id (switch_step old (packet_in item).1 pick)
-    → (delivers_item (at_place now.world place) number (slice_get now.world.packets number)
-    pick).0.packets
-    ≡ map packet_in items ++ (switch_step old (packet_in item).1 pick).sent
-switch_packets rack before place events over cs ss ws items os number pick item id switch old now
-    seen
-    held to same at far fine =
-    ap (λ (a : World × Line). a.0.packets)
-    (delivered rack before place events over cs ss ws items os number pick item id switch old now
-    seen
-    held to same at far fine)
+    abbrev w0 : World
+    w0 = world_of n0 before packets operations fences promotions
 
--- ---- what holds after it
+    abbrev book : World → World × Line
+    book w = switch_stepped (at_place w place) id p (switch_step (switch_of w id) p pick)
 
-knows_after :
-    (stamped : Option (ℕ × ℕ × ℕ)) (rack : Rack) (os : List Operation) (j : ℕ) (x : Client)
-    → IsClient rack os j x → IsClient rack (stamped_after stamped os) j x
-knows_after None rack os j x is = is
-knows_after (Some s) rack os j x is = record {
-  named = is.named;
-  speaks = is.speaks;
-  asks = is.asks;
-  knows = knows_stamped x s.0 s.1 s.2 os is.knows;
-}
+    abbrev mid : Midway
+    mid = record {
+      world = world_of n1 before packets operations fences promotions;
+      sent = n1.sent;
+      spare = spare;
+      notes = notes;
+    }
 
-issued_after_stamp :
-    (stamped : Option (ℕ × ℕ × ℕ)) (place : ℕ) (os : List Operation)
-    → AllByRecursion (λ o. o.op.issued ≤ place) os
-    → AllByRecursion (λ o. o.op.issued ≤ place) (stamped_after stamped os)
-issued_after_stamp None place os issued = issued
-issued_after_stamp (Some s) place os issued = issued_stamped place s.0 s.1 s.2 os issued
+    abbrev w2 : World
+    w2 = world_of (switch_acts n0 step) place packets operations fences promotions
 
-stamped_length :
-    (stamped : Option (ℕ × ℕ × ℕ)) (os : List Operation)
-    → length (stamped_after stamped os) ≡ length os
-stamped_length None os = refl
-stamped_length (Some s) os = length-map os _
+    pub switch_stops :
+        (halt : Halt) → w0 ≡ old.world → n1 ≡ switch_acts n0 step → Closes mid now place (Err halt)
+        → Came old now place (book old.world) (Err halt)
+    switch_stops halt seen acts closes =
+        stops old now n0 n1 (switch_acts n0 step) before place packets operations fences promotions
+        spare notes book halt seen acts refl
+        (ap (λ (w : World). length (w.packets ++ step.sent)) (noted_is p step.did w2 step.state)
+        ∙ ap (λ ps. length (ps ++ step.sent))
+        (noted_alike (note_by p step.did) w2 step.state).packets
+        ∙ length-append packets step.sent) closes
 
-pub switch_run :
-    (rack : Rack) (before place events : ℕ) (over : Bool) (cs : List Client) (ss : List Server)
-    → (ws : List Switch) (items0 items1 items2 : List (Node × List ℕ)) (os os' : List Operation)
-    → (post0 post1 post2 : Outbox) (id pick : ℕ) (old new : Switch) (p : Packet) (did : SwitchDid)
-    → Reads → Moved rack (switch_step old p pick).sent items0 items1 items2 post0 post1 post2
-    → IsRun (world_of rack before cs ss ws items0 os) events over post0 items0 → over ≡ false
-    → events < 1000000 → before < place → slice_get ws id ≡ Some old
-    → FineSwitch rack id (switch_step old p pick) → new ≡ (switch_step old p pick).state
-    → os' ≡ stamped_after (stamped_by p did) os
-    → IsRun (world_of rack place cs ss (slice_set ws id new) items2 os') (events + 1) over post2
-    items2
-switch_run rack before place events over cs ss ws items0 items1 items2 os os' post0 post1 post2 id
-    pick
-    old new p did law moved run live few later at fine is told =
-    let sound = run.sound live in
-    let named : new.id ≡ id = ap (λ (x : Switch). x.id) is ∙ fine.named in
-    let racked : new.rack ≡ rack = ap (λ (x : Switch). x.rack) is ∙ fine.racked in
-    let unlisted : new.entries ≡ [] = ap (λ (x : Switch). x.entries) is ∙ fine.unlisted in
-    let os1 : List Operation = stamped_after (stamped_by p did) os in
-    moved_run rack place events over cs ss (slice_set ws id new) os' (switch_step old p pick).sent
-    items0 items1 items2 post0 post1 post2 law moved run.flown
-    (subst (λ xs. length xs ≤ events + 1) (sym told)
-    (omega (arith, run.counted, stamped_length (stamped_by p did) os))) few
-    (subst (λ xs. IsSound (world_of rack place cs ss (slice_set ws id new) items2 xs)) (sym told)
-    (record {
-      limits = sound.limits;
-      clients = sound.clients;
-      servers = sound.servers;
-      switches = length-set ws id new ∙ sound.switches;
-      each_client =
-          each_weaker (IsClient rack os) (IsClient rack os1) cs
-          (λ j x h. knows_after (stamped_by p did) rack os j x h) sound.each_client;
-      each_server = sound.each_server;
-      each_switch =
-          each_set (IsSwitch rack) (IsSwitch rack) ws id new sound.each_switch
-          (record { named = named; racked = racked; unlisted = unlisted }) (λ j x other h. h);
-      issued =
-          issued_after_stamp (stamped_by p did) place os
-          (issued_later before place os (omega (arith, later)) sound.issued);
-    }))
+    pub switch_came :
+        (closed : Midway) (n : Note) (did : SwitchDid) (told : Said)
+        → w0 ≡ old.world → n1 ≡ switch_acts n0 step → switch_at n1 id ≡ step.state
+        → n ≡ note_by p did → did ≡ step.did → told ≡ said.Switch id did
+        → Closes mid closed place (Ok tt)
+        → now.world ≡ noted closed.world (switch_of closed.world id) n
+        → now.sent ≡ closed.sent → now.spare ≡ closed.spare → length n1.sent ≤ spare
+        → Came old now place (book old.world) (Ok told)
+    switch_came closed n did told seen acts held notes_is answered tells closes is sent room fits =
+        let alike = noted_alike (note_by p step.did) w2 step.state in
+        let world_is : now.world ≡ noted w2 step.state (note_by p step.did) =
+        is
+        ∙ ap (λ (m : Midway). noted m.world (switch_of m.world id) n) closes.0
+        ∙ ap (λ s. noted (world_of n1 place packets operations fences promotions) s n) held
+        ∙ ap (λ (m : Acting). noted (world_of m place packets operations fences promotions)
+        step.state n) acts
+        ∙ ap (noted w2 step.state) (notes_is ∙ ap (note_by p) answered) in
+        let sent_is : now.sent ≡ step.sent =
+        sent ∙ ap (λ (m : Midway). m.sent) closes.0 ∙ ap (λ (m : Acting). m.sent) acts in
+        came old now place (book old.world) told
+        (ap (λ w. reports w now.sent told)
+        (world_is ∙ sym (noted_is p step.did w2 step.state))
+        ∙ ap (λ xs. reports (after_switch w2 step.state p step.did) xs told) sent_is
+        ∙ ap (reports (after_switch w2 step.state p step.did) step.sent)
+        (tells ∙ ap (said.Switch id) answered)
+        ∙ ap book seen)
+        (omega (
+          arith,
+          closes.1,
+          ap (λ (w : World). length w.packets) world_is,
+          ap length alike.packets,
+          ap length sent_is,
+          ap (λ (m : Acting). length m.sent) acts,
+        ))
+        (omega (
+          arith,
+          fits,
+          room,
+          ap (λ (m : Midway). m.spare) closes.0,
+          ap length sent_is,
+          ap (λ (m : Acting). length m.sent) acts,
+        ))
+        (ap (λ (w : World). w.place) world_is ∙ alike.place)
+        (ap (λ (w : World). w.rack) world_is ∙ alike.rack ∙ ap (λ (w : World). w.rack) seen)
+        (omega (
+          arith,
+          ap (λ (w : World). length w.operations) world_is,
+          alike.operations,
+          ap (λ (w : World). length w.operations) seen,
+        ))

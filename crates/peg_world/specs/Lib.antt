@@ -1,5 +1,6 @@
-pub mod Flight
-pub mod Running
+pub mod Acting
 pub mod Sound
-pub mod Sends
-pub mod Steps
+pub mod Midway
+pub mod Machine
+pub mod Notes
+pub mod Running

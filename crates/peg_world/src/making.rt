@@ -1,7 +1,8 @@
 //! The nodes of a rack, as they are at the start.
-ghost use Rattle.std.specs.Prelude.{◌≡◌, [], map, IfOk};
+ghost use Rattle.std.specs.Prelude.{◌≡◌, ◌≤◌, map, length, true, IfOk};
 ghost use Rattle.peg_name.specs.Name.{InLimits};
 ghost use Rattle.peg_model.specs.Words.{below};
+ghost use Rattle.peg_model.specs.Packet.{are_distinct};
 ghost use Rattle.peg_model.specs.Client.{new_client};
 ghost use Rattle.peg_model.specs.Server.{new_server};
 ghost use Rattle.peg_model.specs.Switch.{new_switch};
@@ -12,7 +13,7 @@ use peg_server::Server;
 use peg_switch::Switch;
 use std::alloc::Global;
 
-#[tactic(auto, using(crate::proofs::Nodes::made_more))]
+#[tactic(auto, using(crate::proofs::Made::made_more))]
 pub(crate) fn clients(alloc: Global, config: &Config) -> Result<Vec<Client>, OutOfMemory>
     ensures limits { InLimits config.now }
     ensures made { IfOk result (λ clients. clients.items
@@ -25,7 +26,7 @@ pub(crate) fn clients(alloc: Global, config: &Config) -> Result<Vec<Client>, Out
     Ok(clients)
 }
 
-#[tactic(auto, using(crate::proofs::Nodes::made_more))]
+#[tactic(auto, using(crate::proofs::Made::made_more))]
 pub(crate) fn servers(alloc: Global, config: &Config) -> Result<Vec<Server>, OutOfMemory>
     ensures { IfOk result (λ servers. servers.items
         ≡ map (new_server config.now) (below config.now.servers)) }
@@ -37,13 +38,14 @@ pub(crate) fn servers(alloc: Global, config: &Config) -> Result<Vec<Server>, Out
     Ok(servers)
 }
 
-#[tactic(auto, using(crate::proofs::Nodes::made_more))]
+#[tactic(auto, using(crate::proofs::Made::made_more))]
 pub(crate) fn switches(
     alloc: Global,
     config: &Config,
     keys: &[Key],
 ) -> Result<Vec<Switch>, OutOfMemory>
-    requires keys_so_far { keys.now ≡ [] }
+    requires distinct { are_distinct keys.now ≡ true }
+    requires few { length keys.now ≤ config.now.listed }
     ensures { IfOk result (λ switches. switches.items
         ≡ map (new_switch config.now keys.now) (below config.now.switches)) }
 {

@@ -1,13 +1,22 @@
 //! What a line says of a step.
-ghost use Rattle.std.specs.Prelude.{◌≡◌};
-ghost use Rattle.peg_model.specs.World.{new_op, issue_said, resend_said, give_up_said};
+ghost use Rattle.std.specs.Prelude.{◌≡◌, ℕ, List, true};
+ghost use Rattle.peg_model.specs.World.{new_op, issue_said, resend_said, give_up_said, junk_said};
+ghost use Rattle.peg_model.specs.World.{order_said, retry_said, plan_said};
 ghost use Rattle.peg_event.specs.declared.Issue.TheVariants as issue;
 ghost use Rattle.peg_model.specs.Reading.{packet_of};
-ghost use Rattle.peg_ledger.specs.After.{stamped_of};
+ghost use Rattle.peg_event.specs.declared.SwitchDid.TheVariants as switch_did;
+ghost use Rattle.peg_event.specs.declared.Outcome.TheVariants as outcome;
+ghost use Rattle.peg_model.specs.Packet as model;
+ghost use Rattle.peg_model.specs.Packet.{in_range, what_in_range};
+ghost use Rattle.peg_packet.specs.Seen.{seen, what_seen};
+ghost use Rattle.peg_world.specs.Notes.{note_by, note_of};
 
-use peg_event::{Act, Ask, Issue, Op, Said, SwitchDid};
-use peg_name::{ClientId, Content, Key, Seq, Version};
-use peg_packet::{Packet, decode};
+use peg_event::{
+    Act, Ask, ClientDid, Command, ControlDid, Issue, Op, Order, Outcome, Plan, Retry, Said,
+    ServerDid, SwitchDid,
+};
+use peg_name::{ClientId, Content, Format, Key, Node, Seq, Version};
+use peg_packet::{Packet, What, decode, key_of};
 
 /// An operation as it begins at this place.
 pub(crate) fn new_op(client: ClientId, key: &Key, ask: &Ask, place: u64) -> Op
@@ -68,18 +77,140 @@ pub(crate) fn give_up_said(client: ClientId, given_up: Option<Seq>) -> Said
     }
 }
 
-/// The client, its number and the version of a write that a switch forwarded.
-pub(crate) fn stamped_write(bytes: &[u8], did: &SwitchDid) -> Option<(ClientId, Seq, Version)>
-    ensures { result ≡ stamped_of (packet_of bytes.now) did.now }
+/// What a switch's step is noted for beside the switch.
+#[derive(Drop)]
+pub(crate) enum Note {
+    /// A write was forwarded with this version.
+    Stamped {
+        client: ClientId,
+        seq: Seq,
+        version: Version,
+    },
+    /// A key was listed.
+    Listed {
+        key: Key,
+    },
+    Nothing,
+}
+
+/// What a switch's step on the bytes of a packet is noted for.
+pub(crate) fn note_of(bytes: &[u8], did: &SwitchDid) -> Note
+    ensures { result ≡ note_of (packet_of bytes.now) did.now }
 {
-    let SwitchDid::Wrote { version, .. } = did else {
-        return None;
+    let Some((format, packet)) = decode(bytes) else {
+        return Note::Nothing;
     };
-    let Some((_format, packet)) = decode(bytes) else {
-        return None;
+    match did {
+        SwitchDid::Wrote { version, .. } => stamped(&packet, *version),
+        SwitchDid::Applied { outcome, .. } => listed(format, &packet, outcome),
+        _ => Note::Nothing,
+    }
+}
+
+fn stamped(packet: &Packet<'_>, version: Version) -> Note
+    ensures { (server : ℕ) (written : List ℕ)
+        → result ≡ note_by (seen packet.now) (switch_did.Wrote server written version) }
+{
+    match packet {
+        Packet::Write { client, seq, .. } => Note::Stamped {
+            client: *client,
+            seq: *seq,
+            version,
+        },
+        _ => Note::Nothing,
+    }
+}
+
+#[tactic(auto, unfolding(peg_model::specs::Packet::in_range))]
+fn listed(format: Format, packet: &Packet<'_>, outcome: &Outcome) -> Note
+    requires { in_range format (seen packet.now) ≡ true }
+    ensures { (number : ℕ)
+        → result ≡ note_by (seen packet.now) (switch_did.Applied number outcome.now) }
+{
+    let Outcome::Listed(_) = outcome else {
+        return Note::Nothing;
     };
-    match &packet {
-        Packet::Write { client, seq, .. } => Some((*client, *seq, *version)),
-        _ => None,
+    match packet {
+        Packet::Command { what, .. } => promoted(format, what),
+        _ => Note::Nothing,
+    }
+}
+
+fn promoted(format: Format, what: &What<'_>) -> Note
+    requires { what_in_range format (what_seen what.now) ≡ true }
+    ensures { (number applied listing : ℕ) → result ≡ note_by (model.Command number (what_seen what.now))
+        (switch_did.Applied applied (outcome.Listed listing)) }
+{
+    match what {
+        What::Promote { key } => Note::Listed { key: key_of(key) },
+        _ => Note::Nothing,
+    }
+}
+
+/// What is said of junk that was handed to a node: every node refuses bytes that no packet spells,
+/// and others aren't handed over.
+pub(crate) fn junk_said(to: Node, bytes: &[u8]) -> Said
+    ensures { result ≡ junk_said to (packet_of bytes.now) }
+{
+    if decode(bytes).is_some() {
+        return Said::Forged;
+    }
+    match to {
+        Node::Client(client) => Said::Client {
+            client,
+            did: ClientDid::Ignored,
+        },
+        Node::Server(server) => Said::Server {
+            server,
+            did: ServerDid::Malformed,
+        },
+        Node::Switch(switch) => Said::Switch {
+            switch,
+            did: SwitchDid::Malformed,
+        },
+        Node::Controller => Said::Controller {
+            did: ControlDid::Malformed,
+        },
+    }
+}
+
+/// What is said of a command that was to be ordered.
+pub(crate) fn order_said(command: &Command, order: &Order) -> Said
+    ensures { result ≡ order_said command.now order.now }
+{
+    match order {
+        Order::Busy { pending } => Said::ControlBusy { pending: *pending },
+        Order::Spent { last } => Said::ControlSpent { last: *last },
+        Order::NoSuch { target } => Said::NoSuch { target: *target },
+        Order::SameSwitch { switch } => Said::SameSwitch { switch: *switch },
+        Order::Sent { number } => Said::Orders {
+            number: *number,
+            command: *command,
+        },
+    }
+}
+
+/// What is said of a controller that sent again.
+pub(crate) fn retry_said(retry: &Retry) -> Said
+    ensures { result ≡ retry_said retry.now }
+{
+    match retry {
+        Retry::Command { number } => Said::Retries { number: *number },
+        Retry::Announced { epoch } => Said::Announces { epoch: *epoch },
+    }
+}
+
+/// What is said of a plan.
+pub(crate) fn plan_said(plan: &Plan) -> Said
+    ensures { result ≡ plan_said plan.now }
+{
+    match plan {
+        Plan::Busy { pending } => Said::ControlBusy { pending: *pending },
+        Plan::Spent { last } => Said::ControlSpent { last: *last },
+        Plan::NoReport => Said::NoReport,
+        Plan::Planned { demotes, promotes } => Said::Plans {
+            demotes: *demotes,
+            promotes: *promotes,
+        },
     }
 }

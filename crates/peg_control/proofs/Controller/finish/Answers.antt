@@ -1,5 +1,6 @@
 use Rattle.std.proofs.Common.{ap, ◌∙◌}
 use Rattle.peg_model.specs.Controller.{Controller}
+use Rattle.peg_control.proofs.Nodes.{finished_in_rack}
 use Rattle.peg_control.proofs.Stepping.{room_left, finished_sent, finished_packets, takes_rack}
 use Rattle.peg_control.proofs.Controller.finish.Goals as goal
 
@@ -21,3 +22,8 @@ pub returns-clause-packets : goal.returns-clause-packets
 returns-clause-packets c =
     finished_packets c.args.self.now c.move_on.new.self c.args.command.now c.args.outcome.now
     c.move_on.ensures.after c.announce_if_activated.ensures.packets c.send_pending.ensures.packets
+
+pub returns-clause-nodes : goal.returns-clause-nodes
+returns-clause-nodes c =
+    finished_in_rack c.args.self.now c.move_on.new.self c.args.command.now c.args.outcome.now
+    c.move_on.ensures.after c.announce_if_activated.ensures.nodes c.send_pending.ensures.nodes

@@ -1,10 +1,12 @@
-use Rattle.std.proofs.Common.{◌≡◌, true, ap, sym, subst, refl, ◌∙◌}
+use Rattle.std.proofs.Common.{◌≡◌, true, ap, sym, subst, refl, ◌∙◌, [], ◌∷◌}
 use Rattle.std.specs.Cmp.Derive.{both_true}
 use Rattle.peg_model.specs.Packet as packet
 use Rattle.peg_model.specs.Packet.{in_range}
 use Rattle.peg_model.specs.Controller.{Controller, command_packet}
+use Rattle.peg_packet.specs.Nodes.{are_in_rack}
 use Rattle.peg_packet.specs.Seen.{what_seen}
 use Rattle.peg_control.proofs.Kept.{sent_in_range}
+use Rattle.peg_control.proofs.Nodes.{commanded_in_rack}
 use Rattle.peg_control.proofs.Controller.send.Goals as goal
 
 pub put-requires-clause-in_range : goal.put-requires-clause-in_range
@@ -32,3 +34,9 @@ returns-clause-packets c =
     (λ (s : Controller). in_range s.rack.format (command_packet s c.args.command.now).1 ≡ true)
     view_is sent)
     refl
+
+pub returns-clause-nodes : goal.returns-clause-nodes
+returns-clause-nodes c =
+    subst
+    (λ (s : Controller). are_in_rack s.rack (command_packet s c.args.command.now ∷ []) ≡ true)
+    c.self.view_is (commanded_in_rack _ c.args.command.now c.self.invariant)

@@ -5,6 +5,7 @@ use Rattle.peg_model.specs.Words.{Step}
 use Rattle.peg_model.specs.Packet.{Packet}
 use Rattle.peg_model.specs.Controller.{Controller}
 use Rattle.peg_model.specs.Datagrams.{are_packets}
+use Rattle.peg_packet.specs.Nodes.{are_in_rack}
 use Rattle.peg_packet.specs.Outbox.{posted}
 use Rattle.peg_control.proofs.Stepping.{step_acknowledged}
 use Rattle.peg_control.proofs.Controller.take.Goals as goal
@@ -35,3 +36,11 @@ returns-in-CommandAck-clause-packets c =
     are_packets c.args.self.now.rack.format s.sent)
     (sym step)
     ∙ c.acknowledge.ensures.packets
+
+pub returns-in-CommandAck-clause-nodes : goal.returns-in-CommandAck-clause-nodes
+returns-in-CommandAck-clause-nodes c =
+    let step = step_acknowledged c.args.self.now _ _ _ _ _ c.in-CommandAck.is c.outcome_of.ensures in
+    ap
+    (λ (s : Step Controller (Node × Packet) ControlDid). are_in_rack c.args.self.now.rack s.sent)
+    (sym step)
+    ∙ c.acknowledge.ensures.nodes

@@ -1,8 +1,8 @@
 use Rattle.std.proofs.Common.{◌≡◌, ◌+◌, true, length}
 use Rattle.peg_model.specs.Datagrams.{are_packets}
 use Rattle.peg_packet.specs.Outbox.{posted}
+use Rattle.peg_packet.specs.Nodes.{are_in_rack}
 use Rattle.peg_switch.specs.Kept.{some_parts}
-use Rattle.peg_switch.specs.Nodes.{are_in_rack}
 use Rattle.peg_switch.proofs.handover.send_each.Given as goal
 
 abbrev pub invariant-loop-index : goal.invariant-loop-index

@@ -1,6 +1,6 @@
 use Rattle.std.proofs.Common.{ap, ◌∙◌, ◌++◌, ◌∷◌, []}
 use Rattle.peg_model.specs.Switch.{Switch, new_switch}
-use Rattle.peg_world.proofs.Nodes.{made_more}
+use Rattle.peg_world.proofs.Made.{made_more}
 use Rattle.peg_world.proofs.making.switches.Goals as goal
 
 pub loop-id-preserved : goal.loop-id-preserved
