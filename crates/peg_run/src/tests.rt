@@ -1,6 +1,12 @@
+ghost use Rattle.std.specs.Prelude.{◌<◌};
+ghost use Rattle.peg_model.specs.Schedule.{EventInRack};
+
 use crate::rows::*;
 use crate::{Status, run};
+use peg_event::Event;
 use peg_io::{Got, MemorySink, MemorySource, NoWire, Source};
+use peg_name::{ClientId, Config, Key, Node, SwitchId};
+use peg_world::World;
 use std::alloc::{AllocError, Global};
 use std::test::Fail;
 
@@ -278,5 +284,29 @@ fn each_status_has_its_code_and_text(rt: HostRuntime) -> Result<(), Fail> {
         assert_eq!(rt; status.code(), code);
         assert_eq!(rt; status.to_string(rt.alloc())?.as_str(), text);
     }
+    Ok(())
+}
+
+// Steps an event, and says whether it came.
+fn comes(world: &mut World, place: u64, event: &Event) -> bool
+    requires in_rack { EventInRack world.old.world.rack event.now }
+    requires later { world.old.world.place < place }
+{
+    world.step(place, event).is_ok()
+}
+
+#[test]
+fn a_packet_in_flight_is_shown(rt: HostRuntime) -> Result<(), Fail> {
+    let config = Config::make(1, 1, 1, 1, 1, 1, 1)?;
+    let keys: [Key; 0] = [];
+    let mut world = World::make(rt.alloc(), &config, &keys)?;
+    let (client, key) = (ClientId(0), Key::read(b"k")?);
+    let event = Event::Read { client, key };
+    assert!(rt; comes(&mut world, 2, &event));
+    assert!(rt; world.packets() == 1);
+    let (to, bytes) = world.packet(0);
+    assert_eq!(rt; to, Node::Switch(SwitchId(0)));
+    let read = b"PG\x01\x01\0\0\0\0\0\0\0\0\0\x01\0\0\0\0\0\0\0\0\0\0\x01k";
+    assert_eq!(rt; bytes, read.as_slice());
     Ok(())
 }
