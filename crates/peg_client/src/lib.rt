@@ -2,7 +2,7 @@
 #![tactic(auto)]
 
 ghost use Rattle.std.specs.Prelude.{◌≡◌, ℕ, ◌≤◌, ◌<◌, [], ◌∷◌, ◌++◌, Option, Some, None, true};
-ghost use Rattle.std.specs.Prelude.{◌==◌, ◌&&◌, length, IfSome};
+ghost use Rattle.std.specs.Prelude.{◌==◌, ◌&&◌, length, IfSome, List};
 ghost use Rattle.std.specs.Str.{bytes_eq};
 ghost use Rattle.std.specs.Option.{option_map};
 ghost use Rattle.peg_name.specs.Name.{IsKey};
@@ -15,57 +15,55 @@ ghost use Rattle.peg_model.specs.Datagrams.{client_on_bytes, are_packets};
 ghost use Rattle.peg_packet.specs.Seen.{seen};
 ghost use Rattle.peg_packet.specs.Outbox.{posted};
 ghost use Rattle.peg_client.specs.Fits.{ask_fits, pending_fits};
+ghost use Rattle.peg_client.specs.Waits.{ask_of, pending_of, IsShort};
 
-use peg_event::{ClientDid, Pending};
+use peg_event::ClientDid;
 pub use peg_event::{Ask, Issue};
 use peg_name::{ClientId, Content, Format, Key, Node, Seq, SwitchId};
-use peg_packet::{Packet, Post, bytes_of, content_of, decode};
+use peg_packet::{Packet, Post, content_of, decode};
 use std::marker::Model;
 
 #[cfg(test)]
 mod tests;
 
 /// A client's next sequence number, its pending operation, and the switch that it takes to be
-/// active.
-#[derive(Clone, Copy, Debug)]
+/// active. It keeps the one value that it may have to send again.
+#[derive(Debug, Drop)]
 pub struct Client {
     format: Format,
     id: ClientId,
     next: Seq,
-    pending: Option<Pending>,
+    pending: Option<Waiting>,
     switch: SwitchId,
     epoch: u64,
+    value: [u8; 1024],
+}
+
+// The pending operation. The value that it writes begins the client's bytes.
+#[derive(Clone, Copy, Debug)]
+struct Waiting {
+    seq: Seq,
+    key: Key,
+    kind: Kind,
+}
+
+#[derive(Clone, Copy, Debug)]
+enum Kind {
+    Read,
+    Delete,
+    Write { len: usize },
 }
 
 impl Model for Client {
-    ghost use Rattle.std.specs.Prelude.{◌≡◌, ◌≤◌, true};
     ghost use Rattle.peg_model.specs.Client.{Client as TheClient};
-    ghost use Rattle.peg_model.specs.Packet.{is_client};
-    ghost use Rattle.peg_client.specs.Fits.{pending_fits};
 
     ghost Value = { TheClient };
 
-    ghost view = { λ c. record {
-      format = c.format;
-      id = c.id;
-      next = c.next;
-      pending = c.pending;
-      switch = c.switch;
-      epoch = c.epoch;
-    } };
+    ghost use Rattle.peg_client.specs.Waits.{client_of, IsClient};
 
-    ghost invariant = { λ c.
-        (is_client c.format c.id ≡ true) × (1 ≤ c.next)
-        × (pending_fits c.format c.pending ≡ true) };
+    ghost view = { client_of };
 
-    ghost inverse = { λ c. record {
-      format = c.format;
-      id = c.id;
-      next = c.next;
-      pending = c.pending;
-      switch = c.switch;
-      epoch = c.epoch;
-    } };
+    ghost invariant = { IsClient };
 }
 
 impl Client {
@@ -83,6 +81,7 @@ impl Client {
             pending: None,
             switch: SwitchId(0),
             epoch: 1,
+            value: [0; 1024],
         }
     }
 
@@ -95,15 +94,15 @@ impl Client {
 
     /// Begins an operation and sends its request. It is `Busy` exactly where one is pending, else
     /// `Spent` exactly where the sequence numbers are used up; then nothing changes.
-    pub fn issue(&mut self, key: &Key, ask: Ask, post: &mut Post) -> Issue
+    pub fn issue(&mut self, key: &Key, ask: &Ask<'_>, post: &mut Post) -> Issue
         requires format { post.old.format ≡ self.old.format }
         requires room { length post.old.items < post.old.slots }
-        requires ask { ask_fits self.old.format ask ≡ true }
-        ensures answer { result ≡ (begin_operation self.old key.now ask).did }
-        ensures after { self.new ≡ (begin_operation self.old key.now ask).state }
-        ensures sent { post.new ≡ posted post.old (begin_operation self.old key.now ask).sent }
+        requires ask { ask_fits self.old.format ask.now ≡ true }
+        ensures answer { result ≡ (begin_operation self.old key.now ask.now).did }
+        ensures after { self.new ≡ (begin_operation self.old key.now ask.now).state }
+        ensures sent { post.new ≡ posted post.old (begin_operation self.old key.now ask.now).sent }
         ensures packets { are_packets self.old.format
-            (begin_operation self.old key.now ask).sent ≡ true }
+            (begin_operation self.old key.now ask.now).sent ≡ true }
     {
         if let Some(pending) = &self.pending {
             return Issue::Busy { seq: pending.seq };
@@ -113,10 +112,10 @@ impl Client {
         }
         let seq = self.next;
         self.next = Seq(seq.0 + 1);
-        self.pending = Some(Pending {
+        self.pending = Some(Waiting {
             seq,
             key: *key,
-            ask,
+            kind: keep(ask, &mut self.value),
         });
         self.send(post);
         Issue::Sent { seq }
@@ -159,33 +158,8 @@ impl Client {
             in_range self.now.format (seen packet) ≡ true) }
     {
         match &self.pending {
-            Some(pending) => Some(self.request_for(pending)),
+            Some(waiting) => Some(request_for(self.format, self.id, &self.value, waiting)),
             None => None,
-        }
-    }
-
-    #[tactic(auto, using(crate::proofs::Requests::request_in_range))]
-    fn request_for<'a>(&self, pending: &'a Pending) -> Packet<'a>
-        requires { pending_fits self.now.format (Some pending.now) ≡ true }
-        ensures is { seen result ≡ request_of self.now.id pending.now.seq pending.now.key
-            pending.now.ask }
-        ensures in_range { in_range self.now.format
-            (request_of self.now.id pending.now.seq pending.now.key pending.now.ask) ≡ true }
-    {
-        let seq = number_of(pending);
-        let key = pending.key.bytes();
-        match &pending.ask {
-            Ask::Read => Packet::Read {
-                client: self.id,
-                seq,
-                key,
-            },
-            Ask::Write(content) => Packet::Write {
-                client: self.id,
-                seq,
-                key,
-                content: bytes_of(content),
-            },
         }
     }
 
@@ -206,9 +180,9 @@ impl Client {
     /// Takes any bytes. A reply of the kind, number and key of the pending operation answers it,
     /// and an announcement of a later epoch names the active switch; all else is ignored.
     #[tactic(auto, unfolding(peg_model::specs::Client::client_step))]
-    pub fn step(&mut self, bytes: &[u8]) -> ClientDid
-        ensures answer { result ≡ (client_on_bytes self.old bytes.now).did }
-        ensures after { self.new ≡ (client_on_bytes self.old bytes.now).state }
+    pub fn step<'a>(&mut self, bytes: &'a [u8]) -> ClientDid<'a>
+        ensures answer { result ≡ (client_on_bytes self.old bytes.entry.now).did }
+        ensures after { self.new ≡ (client_on_bytes self.old bytes.entry.now).state }
     {
         let Some((format, packet)) = decode(bytes) else {
             return ClientDid::Ignored;
@@ -220,7 +194,7 @@ impl Client {
     }
 
     #[tactic(auto, unfolding(peg_model::specs::Client::client_step, peg_model::specs::Packet::in_range))]
-    fn take(&mut self, packet: &Packet<'_>) -> ClientDid
+    fn take<'a>(&mut self, packet: &Packet<'a>) -> ClientDid<'a>
         requires { in_range self.old.format (seen packet.now) ≡ true }
         ensures answer { result ≡ (client_step self.old (seen packet.now)).did }
         ensures after { self.new ≡ (client_step self.old (seen packet.now)).state }
@@ -234,10 +208,10 @@ impl Client {
                 content,
                 ..
             } => {
-                let content = content_of(self.format, *content);
                 if !self.awaits_read(*client, *seq, key) {
                     return ClientDid::Ignored;
                 }
+                let content = content_of(self.format, *content);
                 self.pending = None;
                 ClientDid::Read {
                     seq: *seq,
@@ -267,7 +241,7 @@ impl Client {
     }
 
     #[tactic(auto, unfolding(peg_model::specs::Client::client_step))]
-    fn move_to(&mut self, epoch: u64, switch: SwitchId) -> ClientDid
+    fn move_to<'a>(&mut self, epoch: u64, switch: SwitchId) -> ClientDid<'a>
         ensures answer { result ≡ (client_step self.old (model.Announce epoch switch)).did }
         ensures after { self.new ≡ (client_step self.old (model.Announce epoch switch)).state }
     {
@@ -283,8 +257,8 @@ impl Client {
         ensures { result ≡ awaits_read self.now client seq key.now }
     {
         match &self.pending {
-            Some(pending) if is_read(&pending.ask) => {
-                matches(self.id, pending, client, seq, key)
+            Some(waiting) if is_read(waiting.kind) => {
+                matches(self.id, waiting, client, seq, key)
             }
             _ => false,
         }
@@ -294,33 +268,88 @@ impl Client {
         ensures { result ≡ awaits_write self.now client seq key.now }
     {
         match &self.pending {
-            Some(pending) if !is_read(&pending.ask) => {
-                matches(self.id, pending, client, seq, key)
+            Some(waiting) if !is_read(waiting.kind) => {
+                matches(self.id, waiting, client, seq, key)
             }
             _ => false,
         }
     }
 }
 
-fn is_read(ask: &Ask) -> bool
-    ensures { result ≡ is_read ask.now }
+// Keeps the value that is written, and says what is asked for.
+fn keep(ask: &Ask<'_>, value: &mut [u8; 1024]) -> Kind
+    ensures kept { ask_of value.new result ≡ ask.now }
+    ensures short { IsShort result }
 {
     match ask {
-        Ask::Read => true,
-        Ask::Write(_) => false,
+        Ask::Read => Kind::Read,
+        Ask::Write(Content::Absent) => Kind::Delete,
+        Ask::Write(Content::Present(written)) => {
+            let bytes = written.bytes();
+            value[..bytes.len()].copy_from_slice(bytes);
+            Kind::Write { len: bytes.len() }
+        }
+    }
+}
+
+fn is_read(kind: Kind) -> bool
+    ensures { (value : List ℕ) → result ≡ is_read (ask_of value kind) }
+{
+    match kind {
+        Kind::Read => true,
+        Kind::Delete | Kind::Write { .. } => false,
+    }
+}
+
+// The request of a pending operation, whose value begins these bytes.
+#[tactic(auto, using(crate::proofs::Requests::request_in_range))]
+fn request_for<'a>(
+    format: Format,
+    id: ClientId,
+    value: &'a [u8; 1024],
+    waiting: &'a Waiting,
+) -> Packet<'a>
+    requires client { is_client format id ≡ true }
+    requires fits { pending_fits format (Some (pending_of value.now waiting.now)) ≡ true }
+    requires short { IsShort waiting.now.kind }
+    ensures is { seen result ≡ request_of id waiting.entry.now.seq waiting.entry.now.key
+        (ask_of value.entry.now waiting.entry.now.kind) }
+    ensures in_range { in_range format (request_of id waiting.entry.now.seq waiting.entry.now.key
+        (ask_of value.entry.now waiting.entry.now.kind)) ≡ true }
+{
+    let seq = number_of(waiting);
+    let key = waiting.key.bytes();
+    match waiting.kind {
+        Kind::Read => Packet::Read {
+            client: id,
+            seq,
+            key,
+        },
+        Kind::Delete => Packet::Write {
+            client: id,
+            seq,
+            key,
+            content: None,
+        },
+        Kind::Write { len } => Packet::Write {
+            client: id,
+            seq,
+            key,
+            content: Some(&value[..len]),
+        },
     }
 }
 
 /// Whether the numbers and the key are those of the pending operation.
-fn matches(id: ClientId, pending: &Pending, client: ClientId, seq: Seq, key: &[u8]) -> bool
+fn matches(id: ClientId, waiting: &Waiting, client: ClientId, seq: Seq, key: &[u8]) -> bool
     ensures { result
-        ≡ (client == id && seq == pending.now.seq && bytes_eq key.now pending.now.key) }
+        ≡ (client == id && seq == waiting.now.seq && bytes_eq key.now waiting.now.key) }
 {
-    client == id && seq == pending.seq && key == pending.key.bytes()
+    client == id && seq == waiting.seq && key == waiting.key.bytes()
 }
 
-fn number_of(pending: &Pending) -> Seq
-    ensures { result ≡ pending.now.seq }
+fn number_of(waiting: &Waiting) -> Seq
+    ensures { result ≡ waiting.now.seq }
 {
-    pending.seq
+    waiting.seq
 }

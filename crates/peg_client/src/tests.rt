@@ -7,17 +7,18 @@ const READER: ClientId = ClientId(1);
 
 #[test]
 fn one_operation_is_pending_at_most(rt: HostRuntime) -> Result<(), Fail> {
+    let reads = [Ask::Read];
     let mut client = Client::new(Format::One, READER, Seq(7));
     let mut post = Post::make(rt.alloc(), Format::One, 2)?;
     let key = Key::read(b"k")?;
     assert!(rt; post.len() < post.slots() && post.format() == client.format());
     assert_eq!(rt;
-        client.issue(&key, Ask::Read, &mut post),
+        client.issue(&key, &reads[0], &mut post),
         Issue::Sent { seq: Seq(7) }
     );
     assert!(rt; post.len() < post.slots() && post.format() == client.format());
     assert_eq!(rt;
-        client.issue(&key, Ask::Read, &mut post),
+        client.issue(&key, &reads[0], &mut post),
         Issue::Busy { seq: Seq(7) }
     );
     assert!(rt; post.len() < post.slots() && post.format() == client.format());
@@ -30,11 +31,12 @@ fn one_operation_is_pending_at_most(rt: HostRuntime) -> Result<(), Fail> {
 
 #[test]
 fn the_first_reply_answers(rt: HostRuntime) -> Result<(), Fail> {
+    let reads = [Ask::Read];
     let mut client = Client::new(Format::One, READER, Seq(7));
     let mut post = Post::make(rt.alloc(), Format::One, 2)?;
     let key = Key::read(b"k")?;
     assert!(rt; post.len() < post.slots() && post.format() == client.format());
-    client.issue(&key, Ask::Read, &mut post);
+    client.issue(&key, &reads[0], &mut post);
     let replies = [Packet::ReadReply {
         client: READER,
         seq: Seq(7),
@@ -67,10 +69,10 @@ fn writes_are_answered_and_clients_move(rt: HostRuntime) -> Result<(), Fail> {
     let mut client = Client::new(Format::One, READER, Seq(1));
     let mut post = Post::make(rt.alloc(), Format::One, 2)?;
     let key = Key::read(b"k")?;
-    let ask = Ask::Write(Content::Present(Value::read(b"x")?));
+    let asks = [Ask::Write(Content::Present(Value::read(b"x")?))];
     assert!(rt; post.len() < post.slots() && post.format() == client.format());
     assert_eq!(rt;
-        client.issue(&key, ask, &mut post),
+        client.issue(&key, &asks[0], &mut post),
         Issue::Sent { seq: Seq(1) }
     );
     let (switch, version) = (SwitchId(1), Version(3));

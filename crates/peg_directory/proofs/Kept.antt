@@ -1,6 +1,6 @@
 -- What every directory keeps, after each change.
 use Rattle.std.proofs.Common.{◌≡◌, ◌<◌, ◌≤◌, ◌+◌, ◌^◌, ℕ, suc, Bool, true, false, not, ◌&&◌, ◌||◌}
-use Rattle.std.proofs.Common.{if◌then◌else◌, List, [], ◌∷◌, ◌++◌, length, All, slice_set, remove}
+use Rattle.std.proofs.Common.{if◌then◌else◌, List, [], ◌∷◌, ◌++◌, length, All}
 use Rattle.std.proofs.Common.{nat_lt, nat_le, ◌==◌}
 use Rattle.std.proofs.Common.{Some, None, refl, sym, ap, subst, ◌∙◌, arith}
 use Rattle.std.proofs.lemmas.Bool.Decides.{nat_tests}
@@ -11,6 +11,7 @@ use Rattle.std.specs.Cmp.Lexicographic.{nat_list_eq_equiv}
 use Rattle.std.specs.List.{list_all}
 use Rattle.std.specs.Map.{keys_of, set_value, remove_entry}
 use Rattle.std.specs.Str.{bytes_eq}
+use Rattle.indexmap.specs.IndexMap.{set_value_at}
 use Rattle.peg_name.specs.Name.{Rack, IsKey}
 use Rattle.peg_name.specs.Holders.{with_holder}
 use Rattle.peg_event.specs.declared.Listing.{Listing}
@@ -25,11 +26,11 @@ use Rattle.peg_directory.specs.Table.{IsDirectory, IsAt}
 
 -- ---- tests
 
-first_of : (a b : Bool) → (a && b) ≡ true → a ≡ true
+pub first_of : (a b : Bool) → (a && b) ≡ true → a ≡ true
 first_of true b h = refl
 first_of false b h = cc
 
-second_of : (a b : Bool) → (a && b) ≡ true → b ≡ true
+pub second_of : (a b : Bool) → (a && b) ≡ true → b ≡ true
 second_of true b h = h
 second_of false b h = cc
 
@@ -170,15 +171,15 @@ pushed_within rack (x ∷ xs) e all one =
 neither : (a b : Bool) → a ≡ false → b ≡ false → (a || b) ≡ false
 neither a b h k = ap (λ x. x || b) h ∙ k
 
-not_first : (a b : Bool) → (a || b) ≡ false → a ≡ false
+pub not_first : (a b : Bool) → (a || b) ≡ false → a ≡ false
 not_first true b h = cc
 not_first false b h = refl
 
-not_second : (a b : Bool) → (a || b) ≡ false → b ≡ false
+pub not_second : (a b : Bool) → (a || b) ≡ false → b ≡ false
 not_second true b h = cc
 not_second false b h = h
 
-negated : (b : Bool) → not b ≡ true → b ≡ false
+pub negated : (b : Bool) → not b ≡ true → b ≡ false
 negated true h = cc
 negated false h = refl
 
@@ -268,41 +269,38 @@ removed_length test (x ∷ xs) = by (test x.0) (removed_length test xs)
 -- ---- the directory after each change
 
 pub after_push :
-    (rack : Rack) (key : List ℕ) (es lent out : Directory) (e : Listing)
-    → IsDirectory (record { rack = rack; entries = es }) → lent ≡ es → entry_of lent key ≡ None
+    (rack : Rack) (key : List ℕ) (es out : Directory) (e : Listing)
+    → IsDirectory (record { rack = rack; entries = es }) → entry_of es key ≡ None
     → is_entry rack (key, e) ≡ true → length es < rack.listed → out ≡ es ++ (key, e) ∷ []
     → IsDirectory (record { rack = rack; entries = out })
-after_push rack key es lent out e d lends none one room is =
-    let free = absent key es (ap (λ l. entry_of l key) (sym lends) ∙ none) in
+after_push rack key es out e d none one room is =
     let n = pushed_length es (key, e) in
     subst (λ l. IsDirectory (record { rack = rack; entries = l })) (sym is) (record {
       few = omega (arith, n, room);
       within = pushed_within rack es (key, e) d.within one;
-      distinct = pushed_distinct es (key, e) d.distinct free;
+      distinct = pushed_distinct es (key, e) d.distinct (absent key es none);
     })
 
 pub after_put :
-    (rack : Rack) (key : List ℕ) (es lent : Directory) (i : ℕ) (e now : Listing)
-    → IsDirectory (record { rack = rack; entries = es }) → lent ≡ es
-    → IsAt key lent i e → is_entry rack (key, now) ≡ true
-    → IsDirectory (record { rack = rack; entries = slice_set es i (key, now) })
-after_put rack key es lent i e now d lends at one =
-    let at_es = subst (λ l. IsAt key l i e) lends at in
+    (rack : Rack) (key : List ℕ) (es : Directory) (i : ℕ) (e now : Listing)
+    → IsDirectory (record { rack = rack; entries = es }) → IsAt key es i e
+    → is_entry rack (key, now) ≡ true
+    → IsDirectory (record { rack = rack; entries = set_value_at es i now })
+after_put rack key es i e now d at one =
     let n = length-set_value (bytes_eq key) es now in
-    subst (λ l. IsDirectory (record { rack = rack; entries = l })) (at_es.put now) (record {
+    subst (λ l. IsDirectory (record { rack = rack; entries = l })) (at.put now) (record {
       few = omega (arith, n, d.few);
       within = set_within rack key es now d.within one;
       distinct = ap are_distinct (keys-set_value (bytes_eq key) es now) ∙ d.distinct;
     })
 
 pub after_remove :
-    (rack : Rack) (key : List ℕ) (es lent out : Directory) (i : ℕ) (e : Listing)
-    → IsDirectory (record { rack = rack; entries = es }) → lent ≡ es → IsAt key lent i e
-    → out ≡ remove es i → IsDirectory (record { rack = rack; entries = out })
-after_remove rack key es lent out i e d lends at is =
-    let at_es = subst (λ l. IsAt key l i e) lends at in
+    (rack : Rack) (key : List ℕ) (es out : Directory)
+    → IsDirectory (record { rack = rack; entries = es }) → out ≡ remove_entry (bytes_eq key) es
+    → IsDirectory (record { rack = rack; entries = out })
+after_remove rack key es out d is =
     let n = removed_length (bytes_eq key) es in
-    subst (λ l. IsDirectory (record { rack = rack; entries = l })) (at_es.gone ∙ sym is) (record {
+    subst (λ l. IsDirectory (record { rack = rack; entries = l })) (sym is) (record {
       few = omega (arith, n, d.few);
       within = removed_within rack (bytes_eq key) es d.within;
       distinct = removed_distinct (bytes_eq key) es d.distinct;

@@ -1,3 +1,5 @@
 pub mod Places
 pub mod Kept
 pub mod Changed
+pub mod Moving
+pub mod Refilled

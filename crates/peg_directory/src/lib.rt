@@ -2,16 +2,23 @@
 //! some server is known to hold, the servers that hold it, and whether the entry is to go.
 #![tactic(auto)]
 
-ghost use Rattle.std.specs.Prelude.{◌≡◌, ℕ, ◌^◌, ◌<◌, ◌≤◌, ◌↔◌, [], length, Some, slice_get};
-ghost use Rattle.std.specs.Prelude.{IfOk, IfSome, IfNone, None, IsTrue, true, vec_capacity, All};
+ghost use Rattle.std.specs.Prelude.{◌≡◌, ℕ, ◌+◌, ◌^◌, ◌<◌, ◌≤◌, ◌↔◌, [], length, Some, slice_get};
+ghost use Rattle.std.specs.Prelude.{IfOk, IfSome, IfNone, None, IsTrue, true, All};
+ghost use Rattle.std.specs.Map.{keys_of, remove_entry};
+ghost use Rattle.std.specs.Str.{bytes_eq};
+ghost use Rattle.indexmap.specs.IndexMap.{spare};
+ghost use Rattle.peg_model.specs.Packet.{are_distinct};
 ghost use Rattle.peg_model.specs.Rules.{entry_of, base_of, list_key, mark_key, note_reply};
 ghost use Rattle.peg_model.specs.Rules.{reported, ends, new_listing};
 ghost use Rattle.peg_model.specs.Handover.{is_entry};
 ghost use Rattle.peg_directory.specs.Table.{Table, IsDirectory, with_entries, IsAt};
 
+use indexmap::IndexMap;
 use peg_name::{Config, Holders, Key, ServerId, Version};
 use std::alloc::Global;
+use std::hash::{Hash, Hasher};
 use std::marker::Model;
+use std::mem;
 
 #[cfg(test)]
 mod tests;
@@ -19,25 +26,60 @@ mod tests;
 pub use peg_event::{Listing, MarkDid, Promoted};
 pub use peg_name::{Note, OutOfMemory};
 
+/// A key as the directory finds it, hashed in one write of its bytes. The hash has no secret, so
+/// users can choose keys that collide; but at most 64 are listed, so the worst that they get is a
+/// search through as many.
+#[derive(Clone, Copy, PartialEq, Eq)]
+struct ListedKey(Key);
+
+impl Model for ListedKey {
+    ghost use Rattle.std.specs.Prelude.{List, ℕ};
+
+    ghost Value = { List ℕ };
+
+    ghost view = { λ k. k.0 };
+
+    ghost inverse = { λ key. record { 0 = key } };
+}
+
+impl Hash for ListedKey {
+    ghost use Rattle.std.specs.Prelude.{◌∷◌, []};
+    ghost use Rattle.std.specs.Cmp.Rules.{hashing};
+    ghost use Rattle.std.proofs.Common.{rules};
+
+    ghost hash_input = { λ key. key ∷ [] };
+
+    ghost respects_eq = { Prim.search (hashing, rules) };
+
+    fn hash<H: Hasher>(&self, state: &mut H) {
+        state.write(self.0.bytes());
+    }
+}
+
 /// The listed keys of a rack, in the order of listing. Its room is taken when it is made, so no
 /// later call takes memory.
 #[derive(Drop)]
 pub struct Directory {
     config: Config,
-    entries: Vec<(Key, Listing)>,
+    entries: IndexMap<ListedKey, Listing>,
+    // Empty between calls: a removal moves what stays here, and the two change places. A map that
+    // entries were removed from one by one would want memory before it is full.
+    emptied: IndexMap<ListedKey, Listing>,
 }
 
 impl Model for Directory {
-    ghost use Rattle.std.specs.Prelude.{◌≤◌, vec_capacity};
+    ghost use Rattle.std.specs.Prelude.{◌≡◌, ◌+◌, ◌≤◌, [], length};
+    ghost use Rattle.indexmap.specs.IndexMap.{spare};
     ghost use Rattle.peg_directory.specs.Table.{Table, IsDirectory};
 
     ghost Value = { Table };
 
-    ghost view = { λ d. record { rack = d.config; entries = d.entries.items } };
+    ghost view = { λ d. record { rack = d.config; entries = d.entries.entries } };
 
     ghost invariant = { λ d.
-        IsDirectory (record { rack = d.config; entries = d.entries.items })
-        × (d.config.listed ≤ vec_capacity d.entries) };
+        IsDirectory (record { rack = d.config; entries = d.entries.entries })
+        × (d.config.listed ≤ length d.entries.entries + spare d.entries)
+        × (d.emptied.entries ≡ []) × (d.config.listed ≤ spare d.emptied) };
 }
 
 impl Directory {
@@ -45,10 +87,13 @@ impl Directory {
     pub fn make(alloc: Global, config: &Config) -> Result<Directory, OutOfMemory>
         ensures { IfOk result (λ d. d ≡ record { rack = config.now; entries = [] }) }
     {
-        let entries = Vec::with_capacity(alloc, config.listed() as usize)?;
+        let room = config.listed() as usize;
+        let entries = IndexMap::with_capacity(alloc, room)?;
+        let emptied = IndexMap::with_capacity(alloc, room)?;
         Ok(Directory {
             config: *config,
             entries,
+            emptied,
         })
     }
 
@@ -76,20 +121,13 @@ impl Directory {
         self.entries.is_empty()
     }
 
-    /// The entries, in the order of listing.
-    pub fn entries(&self) -> &[(Key, Listing)]
-        ensures entries { result.now ≡ self.now.entries }
-        ensures whole { IsDirectory self.now }
-    {
-        &self.entries
-    }
-
     /// An entry, by its place in the order of listing.
     pub fn entry(&self, place: usize) -> (Key, Listing)
         requires { place < length self.now.entries }
         ensures { Some result ≡ slice_get self.now.entries place }
     {
-        self.entries[place]
+        let (key, entry) = entry_at(&self.entries, place);
+        (key.0, entry)
     }
 }
 
@@ -134,8 +172,8 @@ impl Directory {
         if count == self.config.listed() {
             return Promoted::Full { count };
         }
-        self.entries
-            .push_reserved((*key, new_listing(listing, home, base)));
+        let entry = new_listing(listing, home, base);
+        self.entries.insert(ListedKey(*key), entry).unwrap();
         Promoted::Listed
     }
 
@@ -153,7 +191,7 @@ impl Directory {
         if let Some(mark) = entry.mark {
             return MarkDid::AlreadyMarked { mark };
         }
-        self.entries[place] = (*key, marked(&entry, next));
+        self.entries[place] = marked(&entry, next);
         MarkDid::Marked { mark: next }
     }
 
@@ -177,14 +215,23 @@ impl Directory {
             return Note::Unlisted;
         };
         if ends(&entry, home, server, version) {
-            self.entries.remove(place);
+            self.remove(key);
             return Note::Removed {
                 listing: entry.listing,
             };
         }
         let (note, now) = reported(&entry, server, version);
-        self.entries[place] = (*key, now);
+        self.entries[place] = now;
         note
+    }
+
+    /// Takes a key's entry out. The others close up.
+    fn remove(&mut self, key: &Key)
+        ensures { self.new
+            ≡ with_entries self.old (remove_entry (bytes_eq key.now) self.old.entries) }
+    {
+        move_others(&mut self.entries, &mut self.emptied, key);
+        mem::swap(&mut self.entries, &mut self.emptied);
     }
 
     /// Takes these entries in place of its own, as a handover brings them.
@@ -204,27 +251,55 @@ impl Directory {
 }
 
 // The key's entry, with its place.
-fn look_up(entries: &[(Key, Listing)], key: &Key) -> Option<(usize, Listing)>
-    ensures found { IfSome result (λ r. IsAt key.now entries.now r.0 r.1) }
-    ensures absent { IfNone result (entry_of entries.now key.now ≡ None) }
+fn look_up(entries: &IndexMap<ListedKey, Listing>, key: &Key) -> Option<(usize, Listing)>
+    ensures found { IfSome result (λ r. IsAt key.now entries.now.entries r.0 r.1) }
+    ensures absent { IfNone result (entry_of entries.now.entries key.now ≡ None) }
 {
-    for i in 0..entries.len() {
-        if *key == entries[i].0 {
-            return Some((i, entries[i].1));
+    let (place, _, entry) = entries.get_full(&ListedKey(*key))?;
+    Some((place, *entry))
+}
+
+fn entry_at<V: Copy>(entries: &IndexMap<ListedKey, V>, place: usize) -> (ListedKey, V)
+    requires { place < length entries.now.entries }
+    ensures { Some result ≡ slice_get entries.now.entries place }
+{
+    let (key, entry) = entries.get_index(place).unwrap();
+    (*key, *entry)
+}
+
+// Moves all entries but the key's to an empty map, in their order.
+fn move_others<V: Copy>(
+    from: &mut IndexMap<ListedKey, V>,
+    to: &mut IndexMap<ListedKey, V>,
+    key: &Key,
+)
+    requires empty { to.old.entries ≡ [] }
+    requires room { length from.old.entries ≤ spare to.old }
+    ensures moved { to.new.entries ≡ remove_entry (bytes_eq key.now) from.old.entries }
+    ensures room { spare to.old ≤ length to.new.entries + spare to.new }
+    ensures emptied { from.new.entries ≡ [] }
+    ensures room_from { length from.old.entries + spare from.old ≤ spare from.new }
+{
+    for i in 0..from.len() {
+        let (other, entry) = entry_at(from, i);
+        if *key != other.0 {
+            to.insert(other, entry).unwrap();
         }
     }
-    None
+    from.clear();
 }
 
 // Keeps these entries in place of the old ones, in the room that there is.
-fn refill(kept: &mut Vec<(Key, Listing)>, entries: &[(Key, Listing)])
-    requires { length entries.now ≤ vec_capacity kept.old }
-    ensures entries { kept.new.items ≡ entries.now }
-    ensures room { vec_capacity kept.new ≡ vec_capacity kept.old }
+fn refill(kept: &mut IndexMap<ListedKey, Listing>, entries: &[(Key, Listing)])
+    requires room { length entries.now ≤ length kept.old.entries + spare kept.old }
+    requires distinct { are_distinct (keys_of entries.now) ≡ true }
+    ensures entries { kept.new.entries ≡ entries.now }
+    ensures room { length kept.old.entries + spare kept.old
+        ≤ length kept.new.entries + spare kept.new }
 {
     kept.clear();
-    for entry in entries {
-        kept.push_reserved(*entry);
+    for (key, entry) in entries {
+        kept.insert(ListedKey(*key), *entry).unwrap();
     }
 }
 

@@ -16,58 +16,42 @@ mod tests;
 
 // ---- events
 
-/// Bytes that are handed to a node as they are: 0 to 1,000, held in place. A contract sees the list
-/// of the bytes.
-#[derive(Clone, Copy, Debug)]
-pub struct Junk {
-    bytes: [u8; 1000],
-    len: usize,
+/// Bytes that are handed to a node as they are: 0 to 1,000, lent. A contract sees the list of the
+/// bytes.
+#[derive(Debug, Drop)]
+pub struct Junk<'a> {
+    bytes: &'a [u8],
 }
 
-impl Model for Junk {
-    ghost use Rattle.std.specs.Prelude.{◌≡◌, ◌≤◌, List, ℕ, length, take};
-    ghost use Rattle.peg_name.specs.Name.{padded};
-    ghost use Rattle.std.proofs.Common.{arith, length-take-le};
+impl<'a> Model for Junk<'a> {
+    ghost use Rattle.std.specs.Prelude.{◌≤◌, List, ℕ, length};
 
     ghost Value = { List ℕ };
 
-    ghost view = { λ v. take v.len v.bytes };
+    ghost view = { λ v. v.bytes.now };
 
-    ghost invariant = { λ v.
-        (v.len ≤ 1000) × (length v.bytes ≡ 1000) × (padded 1000 (take v.len v.bytes) ≡ v.bytes) };
-
-    ghost inverse = { λ value. record { bytes = padded 1000 value; len = length value } };
-
-    ghost inverse_ok = { λ v h i. record {
-      bytes = h.2 i;
-      len = length-take-le v.len v.bytes (omega (arith, h.0, h.1)) i;
-    } };
+    ghost invariant = { λ v. length v.bytes.now ≤ 1000 };
 }
 
-impl Junk {
+impl<'a> Junk<'a> {
     /// These bytes, of which there are at most 1,000.
-    pub fn make(bytes: &[u8]) -> Junk
+    pub fn make(bytes: &'a [u8]) -> Junk<'a>
         requires { length bytes.now ≤ 1000 }
-        ensures { result ≡ bytes.now }
+        ensures { result ≡ bytes.entry.now }
     {
-        let mut held = [0; 1000];
-        held[..bytes.len()].copy_from_slice(bytes);
-        Junk {
-            bytes: held,
-            len: bytes.len(),
-        }
+        Junk { bytes }
     }
 
     /// The bytes.
-    pub fn bytes(&self) -> &[u8]
+    pub fn bytes(&self) -> &'a [u8]
         ensures bytes { result.now ≡ self.now }
         ensures few { length self.now ≤ 1000 }
     {
-        &self.bytes[..self.len]
+        self.bytes
     }
 }
 
-impl PartialEq for Junk {
+impl<'a> PartialEq for Junk<'a> {
     ghost eq = { pointwise nat_eq };
 
     ghost laws = { partial_equiv_from_equiv nat_list_eq_equiv };
@@ -77,15 +61,15 @@ impl PartialEq for Junk {
     }
 }
 
-impl Eq for Junk {
+impl<'a> Eq for Junk<'a> {
     ghost laws = { nat_list_eq_equiv };
 }
 
 /// One event of a schedule: a client begins an operation, sends it again or gives it up; a packet in
 /// flight, by its number, or junk is handed to its node, with the pick by which a switch chooses
 /// among servers; or the controller is asked for something.
-#[derive(Clone, Copy, Debug)]
-pub enum Event {
+#[derive(Debug, PartialEq, Eq, Drop)]
+pub enum Event<'a> {
     Read {
         client: ClientId,
         key: Key,
@@ -93,7 +77,7 @@ pub enum Event {
     Write {
         client: ClientId,
         key: Key,
-        value: Value,
+        value: Value<'a>,
     },
     Delete {
         client: ClientId,
@@ -111,7 +95,7 @@ pub enum Event {
     },
     Junk {
         to: Node,
-        bytes: Junk,
+        bytes: Junk<'a>,
     },
     Promote {
         key: Key,
@@ -278,8 +262,8 @@ pub enum ServerDid {
 }
 
 /// What a client did.
-#[derive(Clone, Copy, Debug, PartialEq, Eq)]
-pub enum ClientDid {
+#[derive(Debug, PartialEq, Eq, Drop)]
+pub enum ClientDid<'a> {
     Wrote {
         seq: Seq,
         version: Version,
@@ -287,7 +271,7 @@ pub enum ClientDid {
     Read {
         seq: Seq,
         version: Version,
-        content: Content,
+        content: Content<'a>,
     },
     Moved {
         switch: SwitchId,
@@ -320,40 +304,94 @@ pub enum Command {
 }
 
 /// The outcome of a schedule line, with a text for each.
-#[derive(Clone, Copy, Debug, PartialEq, Eq)]
-pub enum Said {
+#[derive(Debug, PartialEq, Eq, Drop)]
+pub enum Said<'a> {
     Rack,
     End,
     Forged,
-    Read { client: ClientId, seq: Seq },
-    Write { client: ClientId, seq: Seq },
-    Delete { client: ClientId, seq: Seq },
-    Busy { client: ClientId, seq: Seq },
-    Spent { client: ClientId },
-    Resend { client: ClientId, seq: Seq },
-    GiveUp { client: ClientId, seq: Seq },
-    NothingOpen { client: ClientId },
-    NoSuchPacket { number: u64, count: u32 },
-    Switch { switch: SwitchId, did: SwitchDid },
-    Server { server: ServerId, did: ServerDid },
-    Client { client: ClientId, did: ClientDid },
-    Controller { did: ControlDid },
-    Orders { number: u64, command: Command },
-    ControlBusy { pending: u64 },
-    ControlSpent { last: u64 },
-    NoSuch { target: u8 },
-    SameSwitch { switch: SwitchId },
-    Retries { number: u64 },
-    Announces { epoch: u64 },
+    Read {
+        client: ClientId,
+        seq: Seq,
+    },
+    Write {
+        client: ClientId,
+        seq: Seq,
+    },
+    Delete {
+        client: ClientId,
+        seq: Seq,
+    },
+    Busy {
+        client: ClientId,
+        seq: Seq,
+    },
+    Spent {
+        client: ClientId,
+    },
+    Resend {
+        client: ClientId,
+        seq: Seq,
+    },
+    GiveUp {
+        client: ClientId,
+        seq: Seq,
+    },
+    NothingOpen {
+        client: ClientId,
+    },
+    NoSuchPacket {
+        number: u64,
+        count: u32,
+    },
+    Switch {
+        switch: SwitchId,
+        did: SwitchDid,
+    },
+    Server {
+        server: ServerId,
+        did: ServerDid,
+    },
+    Client {
+        client: ClientId,
+        did: ClientDid<'a>,
+    },
+    Controller {
+        did: ControlDid,
+    },
+    Orders {
+        number: u64,
+        command: Command,
+    },
+    ControlBusy {
+        pending: u64,
+    },
+    ControlSpent {
+        last: u64,
+    },
+    NoSuch {
+        target: u8,
+    },
+    SameSwitch {
+        switch: SwitchId,
+    },
+    Retries {
+        number: u64,
+    },
+    Announces {
+        epoch: u64,
+    },
     Surveys,
-    Plans { demotes: u64, promotes: u64 },
+    Plans {
+        demotes: u64,
+        promotes: u64,
+    },
     NoReport,
 }
 
 /// The outcome of a line, and the first and last number of the packets that it sent.
-#[derive(Clone, Copy, Debug, PartialEq, Eq)]
-pub struct Line {
-    pub said: Said,
+#[derive(Debug, PartialEq, Eq, Drop)]
+pub struct Line<'a> {
+    pub said: Said<'a>,
     pub sent: Option<(u32, u32)>,
 }
 
@@ -368,12 +406,12 @@ pub enum Act {
 
 /// An operation of a history, with the places of the lines at which it was issued and answered. The
 /// content of a read is what its answer gave, and absent until then.
-#[derive(Clone, Copy, Debug, PartialEq, Eq)]
-pub struct Op {
+#[derive(Debug, PartialEq, Eq, Drop)]
+pub struct Op<'a> {
     pub client: ClientId,
     pub key: Key,
     pub act: Act,
-    pub content: Content,
+    pub content: Content<'a>,
     pub issued: u64,
     pub answered: Option<u64>,
 }
@@ -444,18 +482,18 @@ pub enum FenceOf {
 }
 
 /// What an operation asks for. A delete is a write of the content absent.
-#[derive(Clone, Copy, Debug, PartialEq, Eq)]
-pub enum Ask {
+#[derive(Debug, PartialEq, Eq, Drop)]
+pub enum Ask<'a> {
     Read,
-    Write(Content),
+    Write(Content<'a>),
 }
 
 /// The operation of a client that waits for its answer.
-#[derive(Clone, Copy, Debug, PartialEq, Eq)]
-pub struct Pending {
+#[derive(Debug, PartialEq, Eq, Drop)]
+pub struct Pending<'a> {
     pub seq: Seq,
     pub key: Key,
-    pub ask: Ask,
+    pub ask: Ask<'a>,
 }
 
 /// What came of an operation that was to begin.
@@ -493,10 +531,10 @@ pub enum Plan {
 }
 
 /// What a server keeps of a key: its version and content, and the numbers that its fences left.
-#[derive(Clone, Copy, Debug, PartialEq, Eq)]
-pub struct Stored {
+#[derive(Debug, PartialEq, Eq, Drop)]
+pub struct Stored<'a> {
     pub version: Version,
-    pub content: Content,
+    pub content: Content<'a>,
     pub low: Version,
     pub floor: Version,
     pub old: Version,

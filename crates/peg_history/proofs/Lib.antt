@@ -5,3 +5,4 @@ pub mod EntryOrder
 pub mod Grouping
 pub mod Indexed
 pub mod Passes
+pub mod Shelved

@@ -1,3 +1,5 @@
 pub mod Entries
 pub mod Ledger
 pub mod Groups
+pub mod Contents
+pub mod Rows

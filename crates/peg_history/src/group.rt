@@ -44,12 +44,11 @@ fn groups_of(alloc: Global, history: &History, tags: &[Version]) -> Result<Vec<G
         (λ groups. map group_of groups.items ≡ grouped [] (tagged 0 history.now.ops tags.now)) }
     ensures range { OnOk result (AllByRecursion InRange (tagged 0 history.now.ops tags.now)) }
 {
-    let ops = history.ops();
     let mut known = BTreeMap::new(alloc);
     let mut groups = Vec::new(alloc);
-    for place in 0..ops.len() {
-        let op = &ops[place];
-        let entry = entry_if(place as u32, op, tags[place]);
+    for place in 0..history.len() {
+        let op = history.op(place);
+        let entry = entry_if(place, &op, tags[place as usize]);
         add(alloc, &mut known, &mut groups, &op.key, entry)?;
     }
     Ok(groups)

@@ -7,12 +7,16 @@ ghost use Rattle.std.specs.Prelude.{OnErr, IsOk, IsNone, IfSome};
 ghost use Rattle.peg_model.specs.Order.{order_of, keys_in, tagged};
 ghost use Rattle.peg_model.specs.World.{with_answer};
 ghost use Rattle.peg_history.specs.Ledger.{Ledger};
+ghost use Rattle.peg_history.specs.Contents.{size_of, room_of, IsWithin};
+ghost use Rattle.peg_history.specs.Rows.{op_of, answered_bytes};
 
+use contents::{Contents, Span};
 use peg_event::{Act, Op};
-use peg_name::{Content, Key, Version};
+use peg_name::{ClientId, Content, Key, Version};
 use std::alloc::Global;
 use std::marker::Model;
 
+mod contents;
 mod group;
 mod order;
 #[cfg(test)]
@@ -22,21 +26,34 @@ pub use group::orders_of;
 pub use order::order_of;
 pub use peg_name::OutOfMemory;
 
-/// The operations of a run, named by their places from 0.
+/// The operations of a run, named by their places from 0. Their contents lie one behind the other.
 #[derive(Drop)]
 pub struct History {
-    ops: Vec<Op>,
+    rows: Vec<Row>,
+    contents: Contents,
+}
+
+// An operation, whose content lies elsewhere.
+#[derive(Clone, Copy)]
+struct Row {
+    client: ClientId,
+    key: Key,
+    act: Act,
+    content: Span,
+    issued: u64,
+    answered: Option<u64>,
 }
 
 impl Model for History {
-    ghost use Rattle.std.specs.Prelude.{◌-◌, ◌≤◌, vec_len, vec_capacity};
     ghost use Rattle.peg_history.specs.Ledger.{Ledger};
 
     ghost Value = { Ledger };
 
-    ghost view = { λ h. record { ops = h.ops.items; spare = vec_capacity h.ops - vec_len h.ops } };
+    ghost use Rattle.peg_history.specs.Rows.{ledger_of, IsHistory};
 
-    ghost invariant = { λ h. vec_len h.ops ≤ 4000000000 };
+    ghost view = { ledger_of };
+
+    ghost invariant = { IsHistory };
 }
 
 impl History {
@@ -45,84 +62,136 @@ impl History {
         ensures { result.ops ≡ [] }
     {
         History {
-            ops: Vec::new(alloc),
+            rows: Vec::new(alloc),
+            contents: Contents::make(alloc),
         }
     }
 
-    /// Makes room for `n` more operations.
-    pub fn reserve(&mut self, n: usize) -> Result<(), OutOfMemory>
+    /// Makes room for `n` more operations, and for contents of so many bytes together.
+    pub fn reserve(&mut self, n: usize, bytes: usize) -> Result<(), OutOfMemory>
         ensures room { OnOk result (n ≤ self.new.spare) }
+        ensures bytes { OnOk result (bytes ≤ self.new.room) }
         ensures same { self.new.ops ≡ self.old.ops }
         ensures later { self.old.spare ≤ self.new.spare }
+        ensures bytes_later { self.old.room ≤ self.new.room }
     {
-        self.ops.reserve(n)?;
-        Ok(())
+        self.rows.reserve(n)?;
+        self.contents.reserve(bytes)
     }
 
     /// How many more operations there is memory for.
     pub fn spare(&self) -> usize
         ensures { result ≡ self.now.spare }
     {
-        self.ops.capacity() - self.ops.len()
+        self.rows.capacity() - self.rows.len()
     }
 
-    /// Adds an operation, which gets the next place. It succeeds where there is spare room.
-    pub fn push(&mut self, op: Op) -> Result<(), OutOfMemory>
-        requires { length self.old.ops < 4000000000 }
-        ensures ok { OnOk result (self.new.ops ≡ self.old.ops ++ op ∷ []) }
-        ensures err { OnErr result (self.new.ops ≡ self.old.ops) }
-        ensures succeeds { 0 < self.old.spare → IsOk result }
-        ensures spare { self.old.spare ≤ self.new.spare + 1 }
+    /// For how many more bytes of contents there is memory.
+    pub fn room(&self) -> usize
+        ensures { result ≡ self.now.room }
     {
-        self.ops.extend_from_slice(&[op])?;
+        self.contents.room()
+    }
+
+    /// Adds an operation, which gets the next place. It succeeds where there is spare room, and room
+    /// for its content.
+    #[tactic(auto, using(crate::proofs::Shelved::ops_length))]
+    pub fn push(&mut self, op: &Op<'_>) -> Result<(), OutOfMemory>
+        requires { length self.old.ops < 4000000000 }
+        ensures ok { OnOk result (self.new.ops ≡ self.old.ops ++ op.now ∷ []) }
+        ensures err { OnErr result (self.new.ops ≡ self.old.ops) }
+        ensures succeeds { 0 < self.old.spare → size_of op.now.content ≤ self.old.room
+            → IsOk result }
+        ensures spare { self.old.spare ≤ self.new.spare + 1 }
+        ensures room { self.old.room ≤ self.new.room + size_of op.now.content }
+    {
+        self.rows.reserve(1)?;
+        let content = self.contents.put(&op.content)?;
+        self.rows.push_reserved(Row {
+            client: op.client,
+            key: op.key,
+            act: op.act,
+            content,
+            issued: op.issued,
+            answered: op.answered,
+        });
         Ok(())
     }
 
     /// How many operations it has.
+    #[tactic(auto, using(crate::proofs::Shelved::ops_length))]
     pub fn len(&self) -> u32
         ensures len { result ≡ length self.now.ops }
         ensures most { result ≤ 4000000000 }
     {
-        self.ops.len() as u32
+        self.rows.len() as u32
     }
 
     /// Whether it has no operation.
+    #[tactic(auto, using(crate::proofs::Shelved::ops_length))]
     pub fn is_empty(&self) -> bool
         ensures { result ≡ (length self.now.ops == 0) }
     {
-        self.ops.is_empty()
+        self.rows.is_empty()
     }
 
     /// The operation at a place.
-    pub fn op(&self, place: u32) -> Op
+    #[tactic(auto, using(crate::proofs::Shelved::op_at, crate::proofs::Shelved::span_at, crate::proofs::Shelved::ops_length))]
+    pub fn op(&self, place: u32) -> Op<'_>
         requires { place < length self.now.ops }
         ensures { Some result ≡ slice_get self.now.ops place }
     {
-        self.ops[place as usize]
-    }
-
-    /// Answers an operation at a line of the schedule, and gives a read its content.
-    pub fn answer(&mut self, place: u32, at: u64, content: Content)
-        requires place { place < length self.old.ops }
-        requires open { IfSome (slice_get self.old.ops place) (λ op. IsNone op.answered) }
-        requires later { IfSome (slice_get self.old.ops place) (λ op. op.issued < at) }
-        ensures answered { IfSome (slice_get self.old.ops place)
-            (λ op. self.new.ops ≡ slice_set self.old.ops place (with_answer at content op)) }
-        ensures spare { self.new.spare ≡ self.old.spare }
-    {
-        let op = &mut self.ops[place as usize];
-        op.answered = Some(at);
-        if op.act == Act::Read {
-            op.content = content;
+        let row = self.rows[place as usize];
+        Op {
+            client: row.client,
+            key: row.key,
+            act: row.act,
+            content: self.contents.get(&row.content),
+            issued: row.issued,
+            answered: row.answered,
         }
     }
 
-    /// The operations, in order of their places.
-    pub fn ops(&self) -> &[Op]
-        ensures ops { result.now ≡ self.now.ops }
-        ensures most { length self.now.ops ≤ 4000000000 }
+    /// Answers an operation at a line of the schedule, and gives a read its content, for which there
+    /// is room.
+    #[tactic(auto, using(crate::proofs::Shelved::op_at, crate::proofs::Shelved::span_at, crate::proofs::Shelved::ops_length))]
+    pub fn answer(&mut self, place: u32, at: u64, content: &Content<'_>)
+        requires place { place < length self.old.ops }
+        requires open { IfSome (slice_get self.old.ops place) (λ op. IsNone op.answered) }
+        requires later { IfSome (slice_get self.old.ops place) (λ op. op.issued < at) }
+        requires room { size_of content.now ≤ self.old.room }
+        ensures answered { IfSome (slice_get self.old.ops place)
+            (λ op. self.new.ops ≡ slice_set self.old.ops place (with_answer at content.now op)) }
+        ensures spare { self.new.spare ≡ self.old.spare }
     {
-        &self.ops
+        let row = self.rows[place as usize];
+        let now = answered(&mut self.contents, &row, at, content);
+        self.rows[place as usize] = now;
+    }
+}
+
+// The row as it is answered: a read gets its content, a write keeps its own.
+#[tactic(auto, using(crate::proofs::Shelved::nothing_more))]
+fn answered(contents: &mut Contents, row: &Row, at: u64, content: &Content<'_>) -> Row
+    requires room { size_of content.now ≤ room_of contents.old }
+    requires within { IsWithin (length contents.old.bytes.items) row.now.content }
+    ensures more { contents.new.bytes.items
+        ≡ contents.old.bytes.items ++ answered_bytes row.now.act content.now }
+    ensures is { op_of contents.new.bytes.items result
+        ≡ with_answer at content.now (op_of contents.old.bytes.items row.now) }
+    ensures within { IsWithin (length contents.new.bytes.items) result.content }
+{
+    if row.act == Act::Read {
+        let content = contents.put(content).unwrap();
+        return Row {
+            content,
+            answered: Some(at),
+            ..*row
+        };
+    }
+    Row {
+        answered: Some(at),
+        ..*row
     }
 }
 

@@ -23,11 +23,10 @@ pub fn order_of(
     ensures { IfOk result (λ o. o ≡
         record { key = key.now; ops = order_of history.now.ops tags.now key.now }) }
 {
-    let ops = history.ops();
     let mut entries = Vec::new(alloc);
-    for place in 0..ops.len() {
-        let op = &ops[place];
-        let entry = entry_if(place as u32, op, tags[place]);
+    for place in 0..history.len() {
+        let op = history.op(place);
+        let entry = entry_if(place, &op, tags[place as usize]);
         if op.key == *key {
             keep(&mut entries, entry)?;
         }
@@ -36,7 +35,7 @@ pub fn order_of(
 }
 
 // The entry of an operation that may stand in its key's order.
-pub(crate) fn entry_if(place: u32, op: &Op, tag: Version) -> Option<Entry>
+pub(crate) fn entry_if(place: u32, op: &Op<'_>, tag: Version) -> Option<Entry>
     ensures entry { result ≡ entry_if (record { place = place; op = op.now; tag = tag }) }
     ensures range { IfSome op.now.answered (λ at. at < 2 ^ 64) }
 {

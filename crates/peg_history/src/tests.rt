@@ -3,13 +3,13 @@ use peg_event::{Act, Op};
 use peg_name::{ClientId, Content, Key, Value, Version};
 use std::test::Fail;
 
-fn op_of(
+fn op_of<'a>(
     key: &[u8],
     act: Act,
-    value: &[u8],
+    value: &'a [u8],
     issued: u64,
     answered: Option<u64>,
-) -> Result<Op, Fail> {
+) -> Result<Op<'a>, Fail> {
     Ok(Op {
         client: ClientId(0),
         key: Key::read(key)?,
@@ -24,8 +24,9 @@ fn op_of(
 fn orders_by_tag_and_act(rt: HostRuntime) -> Result<(), Fail> {
     let mut history = History::make(rt.alloc());
     assert!(rt; history.is_empty());
-    history.reserve(7)?;
+    history.reserve(7, 6)?;
     assert!(rt; history.spare() >= 7);
+    assert!(rt; history.room() >= 6);
     let ops = [
         op_of(b"k", Act::Read, b"a", 2, Some(6))?,
         op_of(b"k", Act::Write, b"a", 3, Some(8))?,
@@ -35,7 +36,7 @@ fn orders_by_tag_and_act(rt: HostRuntime) -> Result<(), Fail> {
         op_of(b"k", Act::Write, b"d", 11, None)?,
         op_of(b"k", Act::Read, b"", 12, None)?,
     ];
-    for op in ops {
+    for op in &ops {
         assert!(rt; history.len() < 7);
         history.push(op)?;
     }
@@ -66,10 +67,12 @@ fn an_answer_gives_a_read_its_content(rt: HostRuntime) -> Result<(), Fail> {
     for act in [Act::Read, Act::Write] {
         let place = history.len();
         assert!(rt; place < 2);
-        history.push(op_of(b"k", act, b"held", 2, None)?)?;
+        let op = op_of(b"k", act, b"held", 2, None)?;
+        history.push(&op)?;
+        history.reserve(0, 5)?;
         assert!(rt; history.op(place).answered.is_none());
         assert!(rt; history.op(place).issued < 3);
-        history.answer(place, 3, given);
+        history.answer(place, 3, &given);
         assert_eq!(rt; history.op(place).answered, Some(3));
         assert_eq!(rt; history.op(place).content == given, act == Act::Read);
     }

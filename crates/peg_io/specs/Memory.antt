@@ -8,7 +8,8 @@ use Rattle.std.specs.Prelude.{◌≡◌, ◌+◌, ◌-◌, ◌^◌, ◌⊎◌, �
 use Rattle.std.specs.Prelude.{Option, Some, None, List, [], ◌∷◌, ◌++◌, length, take, drop}
 use Rattle.std.specs.Prelude.{if◌then◌else◌, IsTrue}
 use Rattle.std.specs.List.{list_any}
-use Rattle.peg_io.specs.Outside.{counted, Carried, Datagram, Pause, with_turn, with_port}
+use Rattle.peg_io.specs.Outside.{counted, with_port}
+use Rattle.peg_meaning.specs.Wire.{Carried, Datagram, Pause, with_turn}
 use Rattle.peg_io.specs.Outside.{with_send}
 use Rattle.peg_io.specs.declared.Got.{Got}
 use Rattle.peg_io.specs.declared.Got.TheVariants as got

@@ -3,10 +3,10 @@
 --     Rose before now      a count of faults rose in a call, or stands at its end
 --     Tells before now R      what is told after a call is related to what was told before it
 --     Reads, Writes      what a read took of what was left, and what a write appended
---     Carried      what a wire was asked for and what it gave
 --     Binds, HasTurn, Attempts      what each call of a wire adds to that
 use Rattle.std.specs.Prelude.{◌≡◌, ◌≤◌, ◌+◌, ◌-◌, ◌^◌, ℕ, min, Option, Some, None, List, [], ◌∷◌}
 use Rattle.std.specs.Prelude.{◌++◌, length, take}
+use Rattle.peg_meaning.specs.Wire.{Turn, Datagram, Pause, Sent, Carried, with_turn}
 use Rattle.peg_io.specs.declared.Got.{Got}
 use Rattle.peg_io.specs.declared.Got.TheVariants as got
 use Rattle.peg_io.specs.declared.Took.{Took}
@@ -68,31 +68,11 @@ pub record FaultCounts : Type 0 where
   pub faults : ℕ
   pub lost : ℕ
 
--- a receive that didn't fail: a datagram or a pause, with its slot
-pub data Turn : Type 0 where
-  Datagram : (slot : ℕ) (bytes : List ℕ) → Turn
-  Pause : (slot : ℕ) → Turn
-
--- a send: the number of turns before it, its slot, its port and its bytes
-pub record Sent : Type 0 where
-  pub turn : ℕ
-  pub slot : ℕ
-  pub port : ℕ
-  pub bytes : List ℕ
-
-pub record Carried : Type 0 where
-  pub bound : List ℕ
-  pub turns : List Turn
-  pub attempted : List Sent
-
 -- the datagrams among the turns, with their slots
 abbrev pub received_of : List Turn → List (ℕ × List ℕ)
 received_of [] = []
 received_of (Datagram slot bytes ∷ turns) = (slot, bytes) ∷ received_of turns
 received_of (Pause slot ∷ turns) = received_of turns
-
-abbrev pub with_turn : Carried → Turn → Carried
-with_turn c turn = record c { turns = c.turns ++ turn ∷ [] }
 
 abbrev pub with_port : Carried → ℕ → Carried
 with_port c port = record c { bound = c.bound ++ port ∷ [] }

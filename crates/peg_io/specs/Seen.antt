@@ -1,7 +1,7 @@
 -- What the lists of a wire in memory are seen as.
 use Rattle.std.specs.Prelude.{ℕ, List}
 use Rattle.std.specs.Borrow.{Bor}
-use Rattle.peg_io.specs.Outside.{Turn, Datagram, Pause, Sent}
+use Rattle.peg_meaning.specs.Wire.{Turn, Datagram, Pause, Sent}
 use Rattle.peg_io.specs.Memory.{Coming, Carries, Pauses, Fails}
 use Rattle.peg_io.specs.declared.memory.Scripted.{Scripted}
 use Rattle.peg_io.specs.declared.memory.Scripted.TheVariants as scripted

@@ -5,7 +5,8 @@
 ghost use Rattle.std.specs.Prelude.{◌≡◌, ℕ, ◌+◌, ◌<◌, ◌≤◌, List, length, Option, IsFalse, IsNone};
 ghost use Rattle.std.specs.Prelude.{IfSome, MatchBool};
 ghost use Rattle.std.specs.Bool.{OnFalse};
-ghost use Rattle.peg_io.specs.Outside.{Rose, Reads, Writes, WritesSome, Appends, Carried, HasTurn};
+ghost use Rattle.peg_io.specs.Outside.{Rose, Reads, Writes, WritesSome, Appends, HasTurn};
+ghost use Rattle.peg_meaning.specs.Wire.{Carried};
 ghost use Rattle.peg_io.specs.Outside.{HeardIn, Binds, Attempts, Tells};
 
 mod adapters;

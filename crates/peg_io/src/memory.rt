@@ -2,9 +2,11 @@
 ghost use Rattle.std.specs.Prelude.{◌≡◌, ℕ, ◌+◌, ◌<◌, ◌≤◌, ◌↔◌, ◌==◌, Bool, true, false, not};
 ghost use Rattle.std.specs.Prelude.{Some, None, List, [], length, map, take, drop, min, IsTrue};
 ghost use Rattle.std.specs.Prelude.{IsFalse, IsNone, IfSome, OnOk, OnErr, option_map, slice_get};
-ghost use Rattle.peg_io.specs.Outside.{Rose, Reads, Writes, Carried, HasTurn, HeardIn, Binds};
+ghost use Rattle.peg_io.specs.Outside.{Rose, Reads, Writes, HasTurn, HeardIn, Binds};
+ghost use Rattle.peg_meaning.specs.Wire.{Carried};
 ghost use Rattle.peg_io.specs.Outside.{Attempts, Tells, counted};
-ghost use Rattle.peg_io.specs.Outside.{with_turn, with_send};
+ghost use Rattle.peg_io.specs.Outside.{with_send};
+ghost use Rattle.peg_meaning.specs.Wire.{with_turn};
 ghost use Rattle.peg_io.specs.Memory.{Feed, Basin, Script, Became, is_failing, gives, takes};
 ghost use Rattle.peg_io.specs.Memory.{hears, binds, after_read, HasGiven, HasWritten, HasBound};
 ghost use Rattle.peg_io.specs.Memory.{HasHeard, HasCarried, HasSent, told_of, carried_of};

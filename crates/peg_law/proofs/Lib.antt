@@ -59,3 +59,5 @@ pub mod Hops
 pub mod Answers
 pub mod Rounds
 pub mod Sample
+pub mod Filled
+pub mod Places

@@ -9,3 +9,4 @@ pub mod Given
 pub mod Settled
 pub mod Guarded
 pub mod Reached
+pub mod Places

@@ -2,11 +2,11 @@
 //! or reordered. Each law is a function that does nothing, and its contract is the law.
 #![tactic(auto)]
 
-ghost use Rattle.std.specs.Prelude.{ℕ, List, Contains};
+ghost use Rattle.std.specs.Prelude.{◌≡◌, ◌≤◌, ◌<◌, ℕ, List, Contains};
 ghost use Rattle.std.specs.List.{AllByRecursion};
 ghost use Rattle.peg_name.specs.Name.{Rack};
 ghost use Rattle.peg_event.specs.declared.Event.{Event};
-ghost use Rattle.peg_model.specs.World.{start, run};
+ghost use Rattle.peg_model.specs.World.{World, start, step, run};
 ghost use Rattle.peg_model.specs.Schedule.{IsStart};
 ghost use Rattle.peg_model.specs.Headline.{OrdersAreHistories};
 ghost use Rattle.peg_model.specs.Once.{ActsOnce};
@@ -19,6 +19,7 @@ ghost use Rattle.peg_law.specs.Given.{VersionsAreGiven};
 ghost use Rattle.peg_law.specs.Settled.{CommandsSettle};
 ghost use Rattle.peg_law.specs.Reached.{ReachesWhatWasAnswered};
 ghost use Rattle.peg_law.specs.Lines.{IsLine};
+ghost use Rattle.peg_law.specs.Places.{run_at, AreRising, filled, IsReached, IsEndOfRun};
 ghost use Rattle.peg_model.specs.Moments.{Moment, moments, FullRound, IsAnsweredAt, IsInPlace};
 
 /// For those who build on a rack: a client gets its answer where the network does its part. If a
@@ -204,3 +205,30 @@ pub fn reaches_what_was_answered()
     peg_protocol::tells_what_was_asked();
     peg_grammar::reads_back_what_is_spelled();
 }
+
+/// For those who number the events of a run with gaps between them: nothing is lost by it. A run at
+/// rising places comes to what a schedule comes to that has the same events, and in the gaps some
+/// that change nothing.
+pub fn fills_gaps()
+    ensures { (w : World) (place : ℕ) (placed : List (ℕ × Event)) → AreRising place placed
+        → (run_at w placed).0 ≡ (run w place (filled place placed)).0 }
+{}
+
+/// For those who keep a world while its events come one by one: it is enough to keep that events
+/// of the rack's lines led to it, at rising places up to one that is passed. So it is with a rack
+/// as it begins, and again after one more event at a later place; and a later place may be named
+/// though nothing happened there. Such a world is of its rack, and is the end of a schedule, so
+/// that all that is said here of the ends of schedules holds of it.
+pub fn reaches_ends_of_runs()
+    ensures begins { (rack : Rack) (keys : List (List ℕ))
+        → IsReached rack keys 1 (start rack keys) }
+    ensures steps { (rack : Rack) (keys : List (List ℕ)) (place at : ℕ) (w : World) (e : Event)
+        → IsReached rack keys place w → 2 ≤ at → place < at → IsLine rack e
+        → IsReached rack keys at (step w at e).0 }
+    ensures waits { (rack : Rack) (keys : List (List ℕ)) (place more : ℕ) (w : World)
+        → place ≤ more → IsReached rack keys place w → IsReached rack keys more w }
+    ensures of_rack { (rack : Rack) (keys : List (List ℕ)) (place : ℕ) (w : World)
+        → IsReached rack keys place w → w.rack ≡ rack }
+    ensures ends { (rack : Rack) (keys : List (List ℕ)) (place : ℕ) (w : World)
+        → IsReached rack keys place w → IsEndOfRun rack keys w }
+{}

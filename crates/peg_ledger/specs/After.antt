@@ -1,6 +1,7 @@
 -- What a step makes of the operations, of the fences and of the promotions.
 --     issued_after op issue operations      one more, where it was sent
 --     answered_after fences place client did operations      an answer, where the client took one
+--     answered_size did      how many bytes the content of the answer has
 --     stamped_by packet did      the client, its number and the version of a write that was stamped
 --     stamped_after stamped operations      its tag
 --     fenced_after did fences      one more, where the server applied it
@@ -15,6 +16,7 @@ use Rattle.peg_event.specs.declared.ClientDid.{ClientDid}
 use Rattle.peg_event.specs.declared.ClientDid.TheVariants as client_did
 use Rattle.peg_event.specs.declared.SwitchDid.{SwitchDid}
 use Rattle.peg_event.specs.declared.SwitchDid.TheVariants as switch_did
+use Rattle.peg_history.specs.Contents.{size_of}
 use Rattle.peg_model.specs.Packet.{Packet, Write}
 use Rattle.peg_model.specs.World.{Operation, changed_at, answered_as, stamped_as, AppliedFence}
 use Rattle.peg_model.specs.World.{Promotion, origin_of}
@@ -52,6 +54,10 @@ abbrev pub answered_number : ClientDid → Option ℕ
 answered_number (client_did.Wrote seq version) = Some seq
 answered_number (client_did.Read seq version content) = Some seq
 answered_number _ = None
+
+abbrev pub answered_size : ClientDid → ℕ
+answered_size (client_did.Read seq version content) = size_of content
+answered_size _ = 0
 
 -- a fence goes back to what the version goes back to that the server held before
 abbrev pub fence_of : List AppliedFence → List ℕ → ℕ → ℕ → AppliedFence

@@ -1,5 +1,6 @@
 -- The operations of a run as they are kept: the history, the name of each operation and its tag.
---     Kept      the operations, and for how many more there is memory
+--     Kept      the operations, for how many more there is memory, and for how many more bytes of
+--         contents
 --     operations_of ops names tags      the operations that they are
 --     AreOf ops names tags      they are of the same operations, and no two have one name
 --     IsOpen client seq place operations      the operations of that name have no answer, and were
@@ -17,6 +18,7 @@ use Rattle.peg_ledger.specs.declared.operations.Name.{Name}
 pub record Kept : Type 0 where
   pub operations : List Operation
   pub spare : ℕ
+  pub room : ℕ
 
 abbrev pub operations_of : List Op → List Name → List ℕ → List Operation
 operations_of (op ∷ ops) (name ∷ names) (tag ∷ tags) =

@@ -3,10 +3,11 @@ ghost use Rattle.std.specs.Prelude.{◌≡◌, ◌<◌, ◌≤◌, ◌++◌, ◌
 ghost use Rattle.std.specs.Prelude.{OnOk, IsOk, IfOk, IfSome};
 ghost use Rattle.std.specs.List.{list_any};
 ghost use Rattle.peg_model.specs.World.{is_named, changed_at, answered_as, stamped_as};
+ghost use Rattle.peg_history.specs.Contents.{size_of};
 ghost use Rattle.peg_history.specs.Groups.{key_orders};
 ghost use Rattle.peg_ledger.specs.Kept.{IsOpen, IsFresh};
 ghost use Rattle.peg_ledger.specs.After.{issued_after, answered_after, answered_number};
-ghost use Rattle.peg_ledger.specs.After.{stamped_after};
+ghost use Rattle.peg_ledger.specs.After.{answered_size, stamped_after};
 
 use crate::Fences;
 use indexmap::IndexSet;
@@ -58,6 +59,7 @@ impl Model for Operations {
     ghost view = { λ o. record {
       operations = operations_of o.history.ops o.names.keys o.tags.items;
       spare = min o.history.spare (min (spare o.names) (vec_capacity o.tags - vec_len o.tags));
+      room = o.history.room;
     } };
 
     ghost invariant = { λ o. AreOf o.history.ops o.names.keys o.tags.items };
@@ -75,12 +77,13 @@ impl Operations {
         }
     }
 
-    /// Makes room for one more operation.
-    pub fn reserve(&mut self) -> Result<(), OutOfMemory>
+    /// Makes room for one more operation, and for contents of so many bytes together.
+    pub fn reserve(&mut self, bytes: usize) -> Result<(), OutOfMemory>
         ensures same { self.new.operations ≡ self.old.operations }
         ensures room { OnOk result (1 ≤ self.new.spare) }
+        ensures bytes { OnOk result (bytes ≤ self.new.room) }
     {
-        self.history.reserve(1)?;
+        self.history.reserve(1, bytes)?;
         self.names.reserve(1)?;
         self.tags.reserve(1)?;
         Ok(())
@@ -88,12 +91,13 @@ impl Operations {
 
     /// Adds an operation of a new name, as it begins. It succeeds where there is room.
     #[tactic(auto, using(crate::proofs::Keeping::length_of, crate::proofs::Keeping::fresh_name, crate::proofs::Keeping::added, crate::proofs::Keeping::named_added, crate::proofs::Keeping::names_length))]
-    fn begin(&mut self, op: Op, seq: Seq) -> Result<(), OutOfMemory>
+    fn begin(&mut self, op: &Op<'_>, seq: Seq) -> Result<(), OutOfMemory>
         requires few { length self.old.operations < 4000000000 }
         requires room { 1 ≤ self.old.spare }
-        requires fresh { list_any (is_named op.client seq) self.old.operations ≡ false }
+        requires bytes { size_of op.now.content ≤ self.old.room }
+        requires fresh { list_any (is_named op.now.client seq) self.old.operations ≡ false }
         ensures ok { OnOk result (self.new.operations
-            ≡ self.old.operations ++ record { op = op; seq = seq; tag = 0 } ∷ []) }
+            ≡ self.old.operations ++ record { op = op.now; seq = seq; tag = 0 } ∷ []) }
         ensures succeeds { IsOk result }
     {
         let client = op.client;
@@ -113,16 +117,17 @@ impl Operations {
         seq: Seq,
         place: u64,
         version: Version,
-        content: Content,
+        content: &Content<'_>,
     )
-        requires { IsOpen client seq place self.old.operations }
+        requires opens { IsOpen client seq place self.old.operations }
+        requires bytes { size_of content.now ≤ self.old.room }
         ensures { self.new.operations ≡ changed_at client seq
-            (answered_as fences.now.fences place version content) self.old.operations }
+            (answered_as fences.now.fences place version content.now) self.old.operations }
     {
         if let Some(index) = self.names.get_index_of(&Name { client, seq }) {
-            let op = self.history.op(index as u32);
+            let key = self.history.op(index as u32).key;
             self.history.answer(index as u32, place, content);
-            self.tags[index] = fences.origin_of(&op.key, version);
+            self.tags[index] = fences.origin_of(&key, version);
         }
     }
 
@@ -139,13 +144,15 @@ impl Operations {
         }
     }
 
-    /// Adds an operation as it begins, where it was sent. It succeeds where there is room.
-    pub fn take_issue(&mut self, op: Op, issue: &Issue) -> Result<(), OutOfMemory>
+    /// Adds an operation as it begins, where it was sent. It succeeds where there is room, and room
+    /// for its content.
+    pub fn take_issue(&mut self, op: &Op<'_>, issue: &Issue) -> Result<(), OutOfMemory>
         requires few { length self.old.operations < 4000000000 }
         requires room { 1 ≤ self.old.spare }
-        requires fresh { IsFresh op.client issue.now self.old.operations }
+        requires bytes { size_of op.now.content ≤ self.old.room }
+        requires fresh { IsFresh op.now.client issue.now self.old.operations }
         ensures ok { OnOk result (self.new.operations
-            ≡ issued_after op issue.now self.old.operations) }
+            ≡ issued_after op.now issue.now self.old.operations) }
         ensures succeeds { IsOk result }
     {
         match issue {
@@ -154,22 +161,31 @@ impl Operations {
         }
     }
 
-    /// Answers the operation that a client took a reply to at a place of the schedule.
-    pub fn take_answer(&mut self, fences: &Fences, client: ClientId, place: u64, did: &ClientDid)
-        requires { IfSome (answered_number did.now)
+    /// Answers the operation that a client took a reply to at a place of the schedule. There is room
+    /// for the content that it gives.
+    pub fn take_answer(
+        &mut self,
+        fences: &Fences,
+        client: ClientId,
+        place: u64,
+        did: &ClientDid<'_>,
+    )
+        requires opens { IfSome (answered_number did.now)
             (λ seq. IsOpen client seq place self.old.operations) }
+        requires bytes { answered_size did.now ≤ self.old.room }
         ensures { self.new.operations
             ≡ answered_after fences.now.fences place client did.now self.old.operations }
     {
         match did {
             ClientDid::Wrote { seq, version } => {
-                self.answer(fences, client, *seq, place, *version, Content::Absent);
+                let contents = [Content::Absent];
+                self.answer(fences, client, *seq, place, *version, &contents[0]);
             }
             ClientDid::Read {
                 seq,
                 version,
                 content,
-            } => self.answer(fences, client, *seq, place, *version, *content),
+            } => self.answer(fences, client, *seq, place, *version, content),
             ClientDid::Moved { .. } | ClientDid::Ignored => {}
         }
     }

@@ -49,8 +49,8 @@ fn an_operation_begins_and_is_answered(rt: HostRuntime) -> Result<(), Fail> {
         issued: 2,
         answered: None,
     };
-    operations.reserve()?;
-    operations.take_issue(op, &Issue::Sent { seq })?;
+    operations.reserve(0)?;
+    operations.take_issue(&op, &Issue::Sent { seq })?;
     operations.take_stamp(Some((client, seq, Version(1))));
     let did = ClientDid::Wrote {
         seq,

@@ -1,2 +1,4 @@
 pub mod Padding
 pub mod Servers
+pub mod Sameness
+pub mod Padded

@@ -111,13 +111,32 @@ impl Key {
     }
 }
 
+// Whether the bytes are the same, with no branch on them.
+#[tactic(auto, using(crate::proofs::Sameness::same_after, crate::proofs::Sameness::same_ends))]
+fn are_same(one: &[u8; 32], other: &[u8; 32]) -> bool
+    ensures { result ≡ pointwise nat_eq one.now other.now }
+{
+    let mut same = true;
+    for i in 0..32usize {
+        same = same & (one[i] == other[i]);
+    }
+    same
+}
+
+#[tactic(auto, using(crate::proofs::Padded::keys_same))]
+fn are_keys_same(one: &Key, other: &Key) -> bool
+    ensures { result ≡ pointwise nat_eq one.now other.now }
+{
+    one.len == other.len && are_same(&one.bytes, &other.bytes)
+}
+
 impl PartialEq for Key {
     ghost eq = { pointwise nat_eq };
 
     ghost laws = { partial_equiv_from_equiv nat_list_eq_equiv };
 
     fn eq(&self, other: &Self) -> bool {
-        self.bytes() == other.bytes()
+        are_keys_same(self, other)
     }
 }
 
@@ -163,31 +182,20 @@ impl Hash for Key {
     }
 }
 
-/// A value: 0 to 1,024 bytes, held in place. A contract sees the list of the bytes.
-#[derive(Clone, Copy, Debug)]
-pub struct Value {
-    bytes: [u8; 1024],
-    len: usize,
+/// A value: 0 to 1,024 bytes, lent. A contract sees the list of the bytes.
+#[derive(Debug, Drop)]
+pub struct Value<'a> {
+    bytes: &'a [u8],
 }
 
-impl Model for Value {
-    ghost use Rattle.std.specs.Prelude.{◌≡◌, ◌≤◌, List, ℕ, length, take};
-    ghost use Rattle.peg_name.specs.Name.{padded};
-    ghost use Rattle.std.proofs.Common.{arith, length-take-le};
+impl<'a> Model for Value<'a> {
+    ghost use Rattle.std.specs.Prelude.{◌≤◌, List, ℕ, length};
 
     ghost Value = { List ℕ };
 
-    ghost view = { λ v. take v.len v.bytes };
+    ghost view = { λ v. v.bytes.now };
 
-    ghost invariant = { λ v.
-        (v.len ≤ 1024) × (length v.bytes ≡ 1024) × (padded 1024 (take v.len v.bytes) ≡ v.bytes) };
-
-    ghost inverse = { λ value. record { bytes = padded 1024 value; len = length value } };
-
-    ghost inverse_ok = { λ v h i. record {
-      bytes = h.2 i;
-      len = length-take-le v.len v.bytes (omega (arith, h.0, h.1)) i;
-    } };
+    ghost invariant = { λ v. length v.bytes.now ≤ 1024 };
 }
 
 /// The bytes are more than a value holds.
@@ -195,34 +203,36 @@ impl Model for Value {
 #[error("a value has at most 1,024 bytes")]
 pub struct TooLong;
 
-impl Value {
+impl<'a> Value<'a> {
     /// The value of these bytes, of which there are at most 1,024. A rack of format 1 has values of
     /// at most 512 bytes, which its packets and texts see to.
-    pub fn read(bytes: &[u8]) -> Result<Value, TooLong>
-        ensures too_long { (1024 < length bytes.now) ↔ IsErr result }
-        ensures value { IfOk result (λ value. value ≡ bytes.now) }
+    pub fn read(bytes: &'a [u8]) -> Result<Value<'a>, TooLong>
+        ensures too_long { (1024 < length bytes.entry.now) ↔ IsErr result }
+        ensures value { IfOk result (λ value. value ≡ bytes.entry.now) }
     {
         if bytes.len() > 1024 {
             return Err(TooLong);
         }
-        let mut held = [0; 1024];
-        held[..bytes.len()].copy_from_slice(bytes);
-        Ok(Value {
-            bytes: held,
-            len: bytes.len(),
-        })
+        Ok(Value { bytes })
     }
 
     /// Its bytes.
-    pub fn bytes(&self) -> &[u8]
+    pub fn bytes(&self) -> &'a [u8]
         ensures bytes { result.now ≡ self.now }
         ensures value { IsValue self.now }
     {
-        &self.bytes[..self.len]
+        self.bytes
+    }
+
+    /// The same value, lent again.
+    pub fn again(&self) -> Value<'a>
+        ensures { result ≡ self.now }
+    {
+        Value { bytes: self.bytes }
     }
 }
 
-impl PartialEq for Value {
+impl<'a> PartialEq for Value<'a> {
     ghost eq = { pointwise nat_eq };
 
     ghost laws = { partial_equiv_from_equiv nat_list_eq_equiv };
@@ -232,15 +242,27 @@ impl PartialEq for Value {
     }
 }
 
-impl Eq for Value {
+impl<'a> Eq for Value<'a> {
     ghost laws = { nat_list_eq_equiv };
 }
 
 /// What a key has: a value, or nothing, as before its first write and after a delete.
-#[derive(Clone, Copy, Debug, PartialEq, Eq)]
-pub enum Content {
+#[derive(Debug, PartialEq, Eq, Drop)]
+pub enum Content<'a> {
     Absent,
-    Present(Value),
+    Present(Value<'a>),
+}
+
+impl<'a> Content<'a> {
+    /// The same content, lent again.
+    pub fn again(&self) -> Content<'a>
+        ensures { result ≡ self.now }
+    {
+        match self {
+            Content::Absent => Content::Absent,
+            Content::Present(value) => Content::Present(value.again()),
+        }
+    }
 }
 
 /// A server, by its number: 0 to 15, and to 63 in format 2.

@@ -17,8 +17,8 @@ pub fn key_of(bytes: &[u8]) -> Key
     }
 }
 
-/// A lent content, to be kept. A value has at most 512 bytes, and 1,024 in the second format.
-pub fn content_of(format: Format, content: Option<&[u8]>) -> Content
+/// The content of lent bytes, which is lent too. A value has at most 512 bytes, and 1,024 in the second format.
+pub fn content_of<'a>(format: Format, content: Option<&'a [u8]>) -> Content<'a>
     requires { is_content format (content_seen content) ≡ true }
     ensures { result ≡ content_seen content.entry }
 {
@@ -32,7 +32,7 @@ pub fn content_of(format: Format, content: Option<&[u8]>) -> Content
 }
 
 /// A content, to be lent to a packet.
-pub fn bytes_of(content: &Content) -> Option<&[u8]>
+pub fn bytes_of<'a>(content: &Content<'a>) -> Option<&'a [u8]>
     ensures { content_seen result ≡ content.now }
 {
     match content {

@@ -146,14 +146,16 @@ fn put_entry(out: &mut Vec<u8>, format: Format, key: &Key, entry: &Listing)
 }
 
 /// The entries, in their order.
-fn put_entries(out: &mut Vec<u8>, format: Format, entries: &[(Key, Listing)])
-    requires { length out.old.items + 73 * length entries.now ≤ vec_capacity out.old }
-    ensures items { out.new.items ≡ out.old.items ++ flat_map (entry_bytes format) entries.now }
+fn put_entries(out: &mut Vec<u8>, format: Format, directory: &Directory)
+    requires { length out.old.items + 73 * length directory.now.entries ≤ vec_capacity out.old }
+    ensures items { out.new.items
+        ≡ out.old.items ++ flat_map (entry_bytes format) directory.now.entries }
     ensures room { vec_capacity out.new ≡ vec_capacity out.old }
-    ensures rising { list_all (λ item. is_rising item.1.holders) entries.now ≡ true }
+    ensures rising { list_all (λ item. is_rising item.1.holders) directory.now.entries ≡ true }
 {
-    for (key, entry) in entries {
-        put_entry(out, format, key, entry);
+    for place in 0..directory.len() {
+        let (key, entry) = directory.entry(place);
+        put_entry(out, format, &key, &entry);
     }
 }
 
@@ -188,5 +190,5 @@ pub fn spell(out: &mut Vec<u8>, stamper: &Stamper, directory: &Directory, last: 
     put_numbers(out, stamper.next(), last, clients);
     put_rows(out, stamper, clients);
     put(out, &[directory.len() as u8]);
-    put_entries(out, config.format(), directory.entries());
+    put_entries(out, config.format(), directory);
 }

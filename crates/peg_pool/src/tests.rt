@@ -34,5 +34,9 @@ fn packets_stay_in_flight(rt: HostRuntime) -> Result<(), Fail> {
     assert!(rt; to == Node::Controller && bytes == b"ab".as_slice());
     let (to, bytes) = soup.get(1);
     assert!(rt; to == client && bytes.is_empty());
+    let long = [7; 129];
+    assert_eq!(rt; soup.push(client, &long)?, 2);
+    assert_eq!(rt; soup.get(2).1, long.as_slice());
+    assert_eq!(rt; soup.get(0).1, b"ab".as_slice());
     Ok(())
 }

@@ -3,11 +3,11 @@ use Rattle.std.proofs.Common.{◌≡◌, ◌⊎◌, ℕ, Option, Some, None, Lis
 use Rattle.peg_model.specs.Trace.{RunText, replay_text}
 use Rattle.peg_io.specs.Outside.{Tells, Rose}
 use Rattle.peg_run.specs.Front.{HasSchedule}
-use Rattle.peg_run.specs.Ends.{WhereTold, IsDone, IsCut, IsUnread, IsAhead, Ended}
-use Rattle.peg_run.specs.Standing.{HasCause}
+use Rattle.peg_session.specs.Alike.{WhereTold}
+use Rattle.peg_run.specs.Ends.{IsDone, IsCut, IsUnread, IsAhead, Ended, HasCause}
 use Rattle.peg_run.specs.declared.Status.{Status}
 use Rattle.peg_run.specs.declared.Status.TheVariants as status
-use Rattle.peg_run.proofs.Passing.{Tells_as}
+use Rattle.peg_io.proofs.Telling.{Tells_as}
 use Rattle.peg_run.proofs.Fronts.{schedule_of}
 
 module _ (left left' held held' : Option (List ℕ)) where

@@ -10,7 +10,7 @@ use Rattle.peg_event.specs.declared.Event.{Event}
 use Rattle.peg_model.specs.Schedule.{IsEventLine, Schedule, EventsThenEnd, fed}
 use Rattle.peg_io.specs.Lines.{line_of, past_line}
 use Rattle.peg_run.specs.Front.{Lines, AreLinesOf, IsRead}
-use Rattle.peg_run.specs.Standing.{IsOnlyEvent, IsForced}
+use Rattle.peg_run.specs.Forced.{IsOnlyEvent, IsForced}
 
 -- ---- one line more
 

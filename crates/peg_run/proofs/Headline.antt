@@ -13,7 +13,7 @@ use Rattle.peg_run.specs.Ends.{ShowsRegisters, IsDone, Ended}
 use Rattle.peg_run.specs.declared.Status.{Status}
 use Rattle.peg_run.specs.declared.Status.TheVariants as status
 use Rattle.peg_run.proofs.Answered.{ended_as}
-use Rattle.peg_run.proofs.Passing.{Tells_as}
+use Rattle.peg_io.proofs.Telling.{Tells_as}
 
 -- the law that orders are register histories, and that of texts, as their contracts say them
 abbrev pub Histories : Type 0

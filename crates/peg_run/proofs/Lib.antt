@@ -1,12 +1,9 @@
-pub mod Passing
-pub mod Tails
-pub mod Runs
-pub mod Fronts
-pub mod Standings
-pub mod Feeds
-pub mod Grows
-pub mod Schedules
-pub mod Steps
-pub mod Starts
-pub mod Answered
-pub mod Headline
+mod Runs
+mod Fronts
+mod Feeds
+mod Grows
+mod Schedules
+mod Answered
+mod Headline
+mod Limits
+mod Replayed

@@ -1,5 +1,5 @@
 -- A run with one event more.
-use Rattle.std.proofs.Common.{◌≡◌, ◌+◌, ℕ, suc, false, List, [], ◌∷◌, ◌++◌, length, refl, sym, ap}
+use Rattle.std.proofs.Common.{◌≡◌, ◌+◌, ℕ, suc, List, [], ◌∷◌, ◌++◌, length, refl, sym, ap}
 use Rattle.std.proofs.Common.{◌∙◌}
 use Rattle.std.proofs.Common.{arith, append_assoc, codes, decimal, length-append}
 use Rattle.std.proofs.lemmas.List.{append-nil}
@@ -10,10 +10,9 @@ use Rattle.peg_model.specs.World.{World, start, step, run, history}
 use Rattle.peg_model.specs.Order.{orders}
 use Rattle.peg_model.specs.Schedule.{fed}
 use Rattle.peg_model.specs.Trace.{line_text, lines_text, replay_text, tail_text}
-use Rattle.peg_world.specs.Running.{Running, stepped}
-use Rattle.peg_run.specs.Pages.{end_text}
+use Rattle.peg_meaning.specs.ReplayWord.{Ran, stepped, end_text}
 use Rattle.peg_run.specs.Front.{Lines, ran, text_of}
-use Rattle.peg_run.specs.Standing.{reached}
+use Rattle.peg_run.specs.Forced.{reached}
 
 pub run_length : (w : World) (place : ℕ) (events : List Event) → length (run w place events).1 ≡
     length events
@@ -65,8 +64,8 @@ lines_text_more place (l ∷ lines) line =
 
 -- ---- the text of one line more
 
-abbrev running : World → ℕ → Running
-running w n = record { world = w; events = n; is_over = false }
+abbrev running : World → ℕ → Ran
+running w n = record { world = w; events = n }
 
 pub ran_more :
     (rack : Rack) (keys : List (List ℕ)) (events : List Event) (e : Event)
@@ -82,7 +81,7 @@ length_more xs x = length-append xs (x ∷ [])
 
 pub reached_more :
     (rack : Rack) (keys : List (List ℕ)) (events : List Event) (e : Event)
-    → (stepped (reached rack keys events) (length events + 2) e).0
+    → (stepped (reached rack keys events) e).0
     ≡ reached rack keys (events ++ e ∷ [])
 reached_more rack keys events e =
     ap (λ w. running w (length events + 1)) (sym (ran_more rack keys events e))
@@ -90,7 +89,7 @@ reached_more rack keys events e =
 
 -- the line that the event makes
 abbrev pub line_after : Rack → List (List ℕ) → List Event → Event → Line
-line_after rack keys events e = (stepped (reached rack keys events) (length events + 2) e).1
+line_after rack keys events e = (stepped (reached rack keys events) e).1
 
 pub text_more :
     (rack : Rack) (keys : List (List ℕ)) (events : List Event) (e : Event)

@@ -11,7 +11,7 @@ use Rattle.peg_model.specs.Schedule.{IsRackLine, IsEventLine, EventsThenEnd, Sch
 use Rattle.peg_io.specs.Lines.{line_of, past_line, HasNoFeed}
 use Rattle.peg_run.specs.Front.{NoLine, Lines, ran, IsWithin, IsRefused}
 use Rattle.peg_run.specs.Front.{HasSchedule, AreLinesOf}
-use Rattle.peg_run.specs.Standing.{IsForced, IsOnlyEvent}
+use Rattle.peg_run.specs.Forced.{IsForced, IsOnlyEvent}
 use Rattle.peg_run.proofs.Feeds.{rack_feeds, event_feeds, line_of_fed, past_line_fed, plain_feeds}
 use Rattle.peg_run.proofs.Grows.{run_packets_more, run_append}
 

@@ -1,13 +1,12 @@
 -- What holds where `replay` ends with a status. The source and the sink are each seen as what they
 -- told when the call began and when it ends.
 --     job_in words      the job that the words call for
---     WhereTold ..      what holds of the input, what is left of it and the output, where both are
---         told
 --     ShowsRegisters      what was appended shows one plain register for each key
 --     IsDone, IsBadAt, IsTooMuchAt, IsUnread, IsCut      the ends
---     IsNear, IsNearLine, IsNearBad, IsAhead      how far the bytes that were taken go
+--     IsNearLine, IsNearBad, IsAhead      how far the bytes that were taken go
 --     Ended status      all that holds at this status, and that a schedule within the limits
 --         doesn't end with a refusal
+--     HasCause status ..      a fault has its cause
 use Rattle.std.specs.Prelude.{◌≡◌, ◌≤◌, ◌<◌, ◌+◌, ℕ, Bool, true, Option, Some, List, []}
 use Rattle.std.specs.Prelude.{◌∷◌, ◌++◌, length, drop, map, if◌then◌else◌, codes, String}
 use Rattle.std.specs.Prelude.{string_bytes}
@@ -19,8 +18,10 @@ use Rattle.peg_model.specs.Schedule.{IsStart, IsEventLine}
 use Rattle.peg_model.specs.Trace.{replay_text}
 use Rattle.peg_model.specs.Headline.{IsLinearizable}
 use Rattle.peg_law.specs.Lines.{IsLine}
-use Rattle.peg_io.specs.Outside.{Tells, Appends}
+use Rattle.peg_io.specs.Outside.{Tells, Appends, Rose}
 use Rattle.peg_io.specs.Lines.{line_of, past_line, HasNoFeed}
+use Rattle.peg_session.specs.Pages.{AppendsPart, AppendsMore}
+use Rattle.peg_session.specs.Ends.{IsNear}
 use Rattle.peg_run.specs.Front.{Front, Lines, text_of, whole_of, count_of, limit_of, IsWithin}
 use Rattle.peg_run.specs.Front.{IsRead, IsRefused, HasSchedule}
 use Rattle.peg_words.specs.Jobs.{job_of}
@@ -31,30 +32,10 @@ use Rattle.peg_run.specs.declared.Status.TheVariants as status
 abbrev pub job_in : List (String Global) → Option Job
 job_in words = job_of (map string_bytes words)
 
-abbrev pub WhereTold :
-    Option (List ℕ) → Option (List ℕ) → Option (List ℕ) → Option (List ℕ)
-    → (List ℕ → List ℕ → Type 0) → Type 0
-WhereTold (Some input) (Some rest) (Some before) (Some after) P =
-    (output : List ℕ) × (after ≡ before ++ output) × P input output
-WhereTold _ _ _ _ P = Unit {0}
-
 -- what was appended is linearizable, whatever the source told
 abbrev pub ShowsRegisters : List ℕ → List ℕ → Type 0
 ShowsRegisters before now =
     (output : List ℕ) × (now ≡ before ++ output) × IsLinearizable output
-
--- some first part of the text was appended
-abbrev pub AppendsPart : List ℕ → List ℕ → List ℕ → Type 0
-AppendsPart text before now =
-    (part : List ℕ) × (unwritten : List ℕ) × (text ≡ part ++ unwritten) × (now ≡ before ++ part)
-
--- the whole text was appended, and maybe more
-abbrev pub AppendsMore : List ℕ → List ℕ → List ℕ → Type 0
-AppendsMore text before now = (more : List ℕ) × (now ≡ before ++ (text ++ more))
-
--- at most 4,095 bytes of these were taken
-abbrev pub IsNear : List ℕ → List ℕ → Type 0
-IsNear bytes rest = (ahead : List ℕ) × (bytes ≡ ahead ++ rest) × (length ahead ≤ 4095)
 
 -- ---- the ends
 
@@ -180,3 +161,8 @@ Ended (status.BadInput line) left left' held held' =
 Ended (status.TooMuch line) left left' held held' =
     IsTooMuchAt line left left' held held' × IsNearTooMuchAt line left left'
     × Tells left left' (λ input rest. HasSchedule input → ⊥)
+
+abbrev pub HasCause : Status → ℕ → ℕ → ℕ → ℕ → Type 0
+HasCause status.ReadFault reads reads' writes writes' = Rose reads reads'
+HasCause status.WriteFault reads reads' writes writes' = Rose writes writes'
+HasCause _ reads reads' writes writes' = Unit {0}

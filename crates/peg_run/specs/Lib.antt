@@ -1,5 +1,4 @@
 pub mod Front
 pub mod Status
 pub mod Ends
-pub mod Pages
-pub mod Standing
+pub mod Forced

@@ -4,24 +4,23 @@
 ghost use Rattle.std.specs.Prelude.{◌≡◌, ◌≢◌, ◌⊎◌, ℕ, None, Some};
 ghost use Rattle.peg_model.specs.Trace.{RunText};
 ghost use Rattle.peg_io.specs.Outside.{Rose, Tells};
-ghost use Rattle.peg_run.specs.Status.{code_of, status_text};
+ghost use Rattle.peg_session.specs.Alike.{WhereTold};
+ghost use Rattle.peg_run.specs.Status.{code_of, status_text, status_of};
 ghost use Rattle.peg_run.specs.Front.{HasSchedule};
-ghost use Rattle.peg_run.specs.Ends.{job_in, WhereTold, IsDone, IsBadAt, IsTooMuchAt, IsUnread};
-ghost use Rattle.peg_run.specs.Ends.{IsCut, IsAhead, ShowsRegisters};
+ghost use Rattle.peg_run.specs.Ends.{job_in, IsDone, IsBadAt, IsTooMuchAt, IsUnread, IsCut};
+ghost use Rattle.peg_run.specs.Ends.{IsAhead, ShowsRegisters, Ended, HasCause};
 
-use crate::replay::replay_schedule;
 use peg_io::{Sink, Source, Wire};
 use peg_law::prints_register_histories;
+use peg_replay::replay;
+use peg_session::End;
 use peg_trace::shows_each_operation;
 use peg_words::{Job, WordFault, read_words};
 use std::alloc::Global;
 use std::fmt;
 
-mod page;
-mod replay;
 #[cfg(test)]
 mod rows;
-mod tail;
 #[cfg(test)]
 mod tests;
 
@@ -80,6 +79,29 @@ impl fmt::Display for Status {
             Status::TooMuch { line } => write!(f, "peg: line {line} is past the limit"),
         }
     }
+}
+
+fn status_of(end: End) -> Status
+    ensures { result ≡ status_of end }
+{
+    match end {
+        End::Done => Status::Done,
+        End::OutOfMemory => Status::OutOfMemory,
+        End::ReadFault => Status::ReadFault,
+        End::WriteFault => Status::WriteFault,
+        End::WireFault => Status::WireFault,
+        End::BadInput { line } => Status::BadInput { line },
+        End::TooMuch { line } => Status::TooMuch { line },
+    }
+}
+
+fn replay_schedule<S: Source, K: Sink>(alloc: Global, source: &mut S, sink: &mut K) -> Status
+    ensures ended { Ended result (S.left source.old) (S.left source.new)
+        (K.held sink.old) (K.held sink.new) }
+    ensures cause { HasCause result (S.faults source.old) (S.faults source.new)
+        (K.faults sink.old) (K.faults sink.new) }
+{
+    status_of(replay(alloc, source, sink))
 }
 
 /// Carries out the words of a command. There is one, `replay`, which reads a schedule line by line

@@ -288,7 +288,7 @@ fn each_status_has_its_code_and_text(rt: HostRuntime) -> Result<(), Fail> {
 }
 
 // Steps an event, and says whether it came.
-fn comes(world: &mut World, place: u64, event: &Event) -> bool
+fn comes(world: &mut World, place: u64, event: &Event<'_>) -> bool
     requires in_rack { EventInRack world.old.world.rack event.now }
     requires later { world.old.world.place < place }
 {

@@ -263,7 +263,7 @@ impl Server {
         version: Version,
         switch: SwitchId,
         key: &Key,
-        content: &Content,
+        content: &Content<'_>,
         post: &mut Post,
     ) -> Result<ServerDid, OutOfMemory>
         requires format { post.old.format ≡ self.old.rack.format }
@@ -362,7 +362,7 @@ impl Server {
         switch: SwitchId,
         version: Version,
         key: &Key,
-        content: &Content,
+        content: &Content<'_>,
         post: &mut Post,
     ) -> Result<ServerDid, OutOfMemory>
         requires format { post.old.format ≡ self.old.rack.format }

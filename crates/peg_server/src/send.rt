@@ -17,7 +17,7 @@ pub fn read_reply<'a>(
     server: ServerId,
     switch: SwitchId,
     key: &'a Key,
-    content: &'a Content,
+    content: &'a Content<'a>,
     post: &mut Post,
 )
     requires room { length post.old.items < post.old.slots }
@@ -117,7 +117,7 @@ pub fn copy<'a>(
     target: ServerId,
     version: Version,
     key: &'a Key,
-    content: &'a Content,
+    content: &'a Content<'a>,
     post: &mut Post,
 )
     requires room { length post.old.items < post.old.slots }

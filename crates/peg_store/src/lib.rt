@@ -74,9 +74,9 @@ impl Store {
         }
     }
 
-    /// The version and the content of a key: 0 and absent where there is nothing. It takes no
-    /// memory.
-    pub fn read(&self, key: &Key) -> (Version, Content)
+    /// The version and the content of a key, which is lent: 0 and absent where there is nothing. It
+    /// takes no memory.
+    pub fn read(&self, key: &Key) -> (Version, Content<'_>)
         ensures { result ≡ ((held self.now key.now).version, (held self.now key.now).content) }
     {
         match self.places.get(key) {
@@ -91,7 +91,7 @@ impl Store {
         &mut self,
         key: &Key,
         version: Version,
-        content: &Content,
+        content: &Content<'_>,
     ) -> Result<Apply, OutOfMemory>
         requires { 1 ≤ version }
         ensures answer { IfOk result (λ did. did ≡ apply_answer self.old key.now version) }
@@ -115,7 +115,7 @@ impl Store {
         &mut self,
         key: &Key,
         version: Version,
-        content: &Content,
+        content: &Content<'_>,
     ) -> Result<WriteDid, OutOfMemory>
         requires { 1 ≤ version }
         ensures answer { IfOk result (λ did. did ≡ write_answer self.old key.now version) }
@@ -181,7 +181,12 @@ impl Store {
     }
 
     // Keeps these numbers and this content of a key.
-    fn keep(&mut self, key: &Key, numbers: &Numbers, content: &Content) -> Result<(), OutOfMemory>
+    fn keep(
+        &mut self,
+        key: &Key,
+        numbers: &Numbers,
+        content: &Content<'_>,
+    ) -> Result<(), OutOfMemory>
         ensures after { OnOk result
             (self.new ≡ with_stored self.old key.now (with_content numbers.now content.now)) }
         ensures err { OnErr result (self.new ≡ self.old) }
@@ -213,7 +218,12 @@ impl Store {
     }
 
     // Keeps a new key, in a slot of its own, which goes back where the map has no memory for it.
-    fn add(&mut self, key: &Key, numbers: &Numbers, content: &Content) -> Result<(), OutOfMemory>
+    fn add(
+        &mut self,
+        key: &Key,
+        numbers: &Numbers,
+        content: &Content<'_>,
+    ) -> Result<(), OutOfMemory>
         requires { lookup (is_at (key_cmp key.now)) self.old ≡ None }
         ensures after { OnOk result
             (self.new ≡ with_stored self.old key.now (with_content numbers.now content.now)) }
@@ -234,7 +244,7 @@ impl Store {
 }
 
 // The content at a place.
-fn content_at(pool: &SlotPool, place: &Place) -> Content
+fn content_at<'a>(pool: &'a SlotPool, place: &Place) -> Content<'a>
     requires size { pool.now.slots.size ≡ 1024 }
     requires live { HasSlot pool.now.slots place.now }
     ensures { result ≡ content_of pool.now.slots place.now }
@@ -247,7 +257,7 @@ fn content_at(pool: &SlotPool, place: &Place) -> Content
 }
 
 // The bytes of a content: none where it is absent.
-fn bytes_in(content: &Content) -> &[u8]
+fn bytes_in<'a>(content: &Content<'a>) -> &'a [u8]
     ensures bytes { result.now ≡ bytes_in content.now }
     ensures most { length result.now ≤ 1024 }
 {
@@ -257,7 +267,7 @@ fn bytes_in(content: &Content) -> &[u8]
     }
 }
 
-fn is_present(content: &Content) -> bool
+fn is_present(content: &Content<'_>) -> bool
     ensures { content_if result (bytes_in content.now) ≡ content.now }
 {
     matches!(content, Content::Present(_))

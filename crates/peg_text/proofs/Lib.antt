@@ -10,3 +10,4 @@ pub mod EventLines
 pub mod EntryLines
 pub mod RackLines
 pub mod OpLines
+pub mod Plain

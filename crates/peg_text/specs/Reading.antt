@@ -2,11 +2,13 @@
 --     words_of line      its words
 --     number_of w, number_below limit w      the number that a word is
 --     spelled form most w      the bytes that a word spells, at most so many of them
+--     are_plain w      each byte of a word spells itself
 --     key_of, value_of most, content_of, hex_of      a key, a value, a content and handed bytes
 --     next_by f, both_by first second      what the next word says, and what two readers say in
 --         turn
 --     whole_of r      what was read, if no word is left
-use Rattle.std.specs.Prelude.{◌+◌, ◌-◌, ◌*◌, ◌/◌, ◌%◌, ◌^◌, ℕ, zero, suc, Bool, ◌&&◌, ◌||◌, ◌==◌}
+use Rattle.std.specs.Prelude.{◌+◌, ◌-◌, ◌*◌, ◌/◌, ◌%◌, ◌^◌, ℕ, zero, suc, Bool, true, not, ◌&&◌}
+use Rattle.std.specs.Prelude.{◌||◌, ◌==◌}
 use Rattle.std.specs.Prelude.{nat_lt, Option, Some, None, option_and_then, option_map, List, []}
 use Rattle.std.specs.Prelude.{◌∷◌, length, take, drop, slice_index, if◌then◌else◌, codes}
 use Rattle.std.specs.List.{slice_split}
@@ -88,6 +90,13 @@ spelled form zero (c ∷ w) = None
 spelled form (suc n) (c ∷ w) =
     option_and_then (λ next. option_map (λ bytes. next.0 ∷ bytes) (spelled form n next.1))
     (next_byte form (c ∷ w))
+
+abbrev pub is_plain : ℕ → Bool
+is_plain b = is_between 33 126 b && not (b == 37)
+
+abbrev pub are_plain : List ℕ → Bool
+are_plain [] = true
+are_plain (b ∷ w) = is_plain b && are_plain w
 
 -- ---- words
 

@@ -12,9 +12,9 @@ use peg_event::Event;
 use peg_name::{ClientId, Config, Format, Key, Node, ServerId, SwitchId, Value};
 
 /// A line of a schedule behind the rack line.
-#[derive(Clone, Copy, Debug)]
-pub enum Entry {
-    Event(Event),
+#[derive(Debug, PartialEq, Eq, Drop)]
+pub enum Entry<'a> {
+    Event(Event<'a>),
     End,
 }
 
@@ -59,11 +59,15 @@ fn most_of_value(format: Format) -> usize
     }
 }
 
-fn read_value(config: &Config, words: &mut Words<'_>) -> Option<Value>
+fn read_value<'a>(
+    config: &Config,
+    words: &mut Words<'a>,
+    room: &'a mut [u8; 1024],
+) -> Option<Value<'a>>
     ensures { option_map (λ value. (value, words.new)) result
         ≡ events.read_value config.now words.old }
 {
-    words.value(most_of_value(config.format()))
+    words.value(most_of_value(config.format()), room)
 }
 
 fn read_client_key(config: &Config, words: &mut Words<'_>) -> Option<(ClientId, Key)>
@@ -103,7 +107,7 @@ fn read_node(config: &Config, words: &mut Words<'_>) -> Option<Node>
     }
 }
 
-fn bare_event(verb: &[u8]) -> Option<Event>
+fn bare_event<'a>(verb: &[u8]) -> Option<Event<'a>>
     ensures { result ≡ events.bare_event verb.now }
 {
     if verb == b"clear".as_slice() {
@@ -117,7 +121,7 @@ fn bare_event(verb: &[u8]) -> Option<Event>
     }
 }
 
-fn control_event(verb: &[u8], words: &mut Words<'_>) -> Option<Event>
+fn control_event<'a>(verb: &[u8], words: &mut Words<'a>) -> Option<Event<'a>>
     ensures { option_map (λ event. (event, words.new)) result
         ≡ events.control_event verb.now words.old }
 {
@@ -153,7 +157,12 @@ fn control_event(verb: &[u8], words: &mut Words<'_>) -> Option<Event>
     bare_event(verb)
 }
 
-fn packet_event(config: &Config, verb: &[u8], words: &mut Words<'_>) -> Option<Event>
+fn packet_event<'a>(
+    config: &Config,
+    verb: &[u8],
+    words: &mut Words<'a>,
+    room: &'a mut [u8; 1024],
+) -> Option<Event<'a>>
     ensures { option_map (λ event. (event, words.new)) result
         ≡ events.packet_event config.now verb.now words.old }
 {
@@ -164,13 +173,13 @@ fn packet_event(config: &Config, verb: &[u8], words: &mut Words<'_>) -> Option<E
     }
     if verb == b"junk".as_slice() {
         let to = read_node(config, words)?;
-        let bytes = words.junk()?;
+        let bytes = words.junk(room)?;
         return Some(Event::Junk { to, bytes });
     }
     control_event(verb, words)
 }
 
-fn read_delete(config: &Config, words: &mut Words<'_>) -> Option<Event>
+fn read_delete<'a>(config: &Config, words: &mut Words<'a>) -> Option<Event<'a>>
     ensures { option_map (λ event. (event, words.new)) result
         ≡ events.deletes config.now.format config.now words.old }
 {
@@ -183,7 +192,12 @@ fn read_delete(config: &Config, words: &mut Words<'_>) -> Option<Event>
     }
 }
 
-fn event_by(config: &Config, verb: &[u8], words: &mut Words<'_>) -> Option<Event>
+fn event_by<'a>(
+    config: &Config,
+    verb: &[u8],
+    words: &mut Words<'a>,
+    room: &'a mut [u8; 1024],
+) -> Option<Event<'a>>
     ensures { option_map (λ event. (event, words.new)) result
         ≡ events.event_by config.now verb.now words.old }
 {
@@ -194,7 +208,7 @@ fn event_by(config: &Config, verb: &[u8], words: &mut Words<'_>) -> Option<Event
     if verb == b"write".as_slice() {
         let client = read_client(config, words)?;
         let key = words.key()?;
-        let value = read_value(config, words)?;
+        let value = read_value(config, words, room)?;
         return Some(Event::Write { client, key, value });
     }
     if verb == b"delete".as_slice() {
@@ -208,38 +222,40 @@ fn event_by(config: &Config, verb: &[u8], words: &mut Words<'_>) -> Option<Event
         let client = read_client(config, words)?;
         return Some(Event::GiveUp { client });
     }
-    packet_event(config, verb, words)
+    packet_event(config, verb, words, room)
 }
 
-fn event_in(config: &Config, line: &[u8]) -> Option<Event>
-    ensures { result ≡ events.event_in config.now (words_of line.now) }
+fn event_in<'a>(config: &Config, line: &'a [u8], room: &'a mut [u8; 1024]) -> Option<Event<'a>>
+    ensures { result ≡ events.event_in config.now (words_of line.entry.now) }
 {
     let mut words = Words::of(line);
     let verb = words.next()?;
-    let event = event_by(config, verb, &mut words)?;
+    let event = event_by(config, verb, &mut words, room)?;
     match words.next() {
         Some(_more) => None,
         None => Some(event),
     }
 }
 
-fn entry_of(config: &Config, line: &[u8]) -> Option<Entry>
-    ensures { result ≡ events.entry_of config.now line.now }
+fn entry_of<'a>(config: &Config, line: &'a [u8], room: &'a mut [u8; 1024]) -> Option<Entry<'a>>
+    ensures { result ≡ events.entry_of config.now line.entry.now }
 {
-    match event_in(config, line) {
+    match event_in(config, line, room) {
         Some(event) => Some(Entry::Event(event)),
         None if line == b"end".as_slice() => Some(Entry::End),
         None => None,
     }
 }
 
-/// What a line of a schedule says behind the rack line. `None`: it is outside the grammar.
-pub fn event_of(config: &Config, line: &[u8]) -> Option<Entry>
-    ensures event { (e : book.Event) → IsEventLine config.now line.now e → result
+/// What a line of a schedule says behind the rack line. `None`: it is outside the grammar. The bytes
+/// that it hands on are lent from the line or from the room, where they are put as the line spells
+/// them.
+pub fn event_of<'a>(config: &Config, line: &'a [u8], room: &'a mut [u8; 1024]) -> Option<Entry<'a>>
+    ensures event { (e : book.Event) → IsEventLine config.now line.entry.now e → result
         ≡ Some (Entry.Event e) }
-    ensures end { line.now ≡ codes "end" → result ≡ Some Entry.End }
-    ensures sound { IfSome result (IsEntryLine config.now line.now) }
+    ensures end { line.entry.now ≡ codes "end" → result ≡ Some Entry.End }
+    ensures sound { IfSome result (IsEntryLine config.now line.entry.now) }
 {
     prove!(config.clients() > 0);
-    entry_of(config, line)
+    entry_of(config, line, room)
 }

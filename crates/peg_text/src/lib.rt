@@ -13,6 +13,8 @@ mod words;
 
 pub use event::{Entry, event_of};
 pub use op::op_of;
-pub use print::{body_text, history_text, line_text, op_text, order_text, place_text, said_text};
+pub use print::{
+    body_text, datagrams_text, history_text, line_text, op_text, order_text, place_text, said_text,
+};
 pub use rack::{Rack, rack_of};
 pub use text::Text;

@@ -16,7 +16,10 @@ fn read_issued(words: &mut Words<'_>) -> Option<u64>
     words.number()
 }
 
-fn read_given(words: &mut Words<'_>) -> Option<Option<(u64, Content)>>
+fn read_given<'a>(
+    words: &mut Words<'a>,
+    room: &'a mut [u8; 1024],
+) -> Option<Option<(u64, Content<'a>)>>
     ensures { option_map (λ given. (given, words.new)) result ≡ ops.read_given words.old }
 {
     let word = words.next()?;
@@ -24,7 +27,7 @@ fn read_given(words: &mut Words<'_>) -> Option<Option<(u64, Content)>>
         Some(None)
     } else if word == b"answered".as_slice() {
         let at = words.number()?;
-        let content = words.content()?;
+        let content = words.content(room)?;
         Some(Some((at, content)))
     } else {
         None
@@ -44,13 +47,17 @@ fn read_end(words: &mut Words<'_>) -> Option<Option<u64>>
     }
 }
 
-fn read_read(client: ClientId, words: &mut Words<'_>) -> Option<Op>
+fn read_read<'a>(
+    client: ClientId,
+    words: &mut Words<'a>,
+    room: &'a mut [u8; 1024],
+) -> Option<Op<'a>>
     ensures { option_map (λ op. (op, words.new)) result
         ≡ ops.op_by client (codes "read") words.old }
 {
     let key = words.key()?;
     let issued = read_issued(words)?;
-    let (answered, content) = match read_given(words)? {
+    let (answered, content) = match read_given(words, room)? {
         Some((at, content)) => (Some(at), content),
         None => (None, Content::Absent),
     };
@@ -64,12 +71,16 @@ fn read_read(client: ClientId, words: &mut Words<'_>) -> Option<Op>
     })
 }
 
-fn read_write(client: ClientId, words: &mut Words<'_>) -> Option<Op>
+fn read_write<'a>(
+    client: ClientId,
+    words: &mut Words<'a>,
+    room: &'a mut [u8; 1024],
+) -> Option<Op<'a>>
     ensures { option_map (λ op. (op, words.new)) result
         ≡ ops.op_by client (codes "write") words.old }
 {
     let key = words.key()?;
-    let content = words.content()?;
+    let content = words.content(room)?;
     let issued = read_issued(words)?;
     let answered = read_end(words)?;
     Some(Op {
@@ -82,32 +93,36 @@ fn read_write(client: ClientId, words: &mut Words<'_>) -> Option<Op>
     })
 }
 
-fn read_tail(client: ClientId, words: &mut Words<'_>) -> Option<Op>
+fn read_tail<'a>(
+    client: ClientId,
+    words: &mut Words<'a>,
+    room: &'a mut [u8; 1024],
+) -> Option<Op<'a>>
     ensures { option_map (λ op. (op, words.new)) result ≡ ops.read_tail client words.old }
 {
     let verb = words.next()?;
     if verb == b"read".as_slice() {
-        read_read(client, words)
+        read_read(client, words, room)
     } else if verb == b"write".as_slice() {
-        read_write(client, words)
+        read_write(client, words, room)
     } else {
         None
     }
 }
 
-fn read_op(words: &mut Words<'_>) -> Option<(u32, Op)>
+fn read_op<'a>(words: &mut Words<'a>, room: &'a mut [u8; 1024]) -> Option<(u32, Op<'a>)>
     ensures { option_map (λ op. (op, words.new)) result ≡ ops.read_op words.old }
 {
     words.literal(b"op")?;
     let number = words.number_below(4294967296)?;
     words.literal(b"client")?;
     let client = words.number_below(1024)?;
-    let op = read_tail(ClientId(client as u16), words)?;
+    let op = read_tail(ClientId(client as u16), words, room)?;
     Some((number as u32, op))
 }
 
 // An operation is issued behind the rack line, and answered later.
-fn is_timed(op: &Op) -> bool
+fn is_timed(op: &Op<'_>) -> bool
     ensures { result ≡ ops.is_timed op.now }
 {
     if op.issued < 2 {
@@ -119,11 +134,11 @@ fn is_timed(op: &Op) -> bool
     }
 }
 
-fn op_in(line: &[u8]) -> Option<(u32, Op)>
-    ensures { result ≡ ops.op_of line.now }
+fn op_in<'a>(line: &'a [u8], room: &'a mut [u8; 1024]) -> Option<(u32, Op<'a>)>
+    ensures { result ≡ ops.op_of line.entry.now }
 {
     let mut words = Words::of(line);
-    let (number, op) = read_op(&mut words)?;
+    let (number, op) = read_op(&mut words, room)?;
     if words.next().is_some() || !is_timed(&op) {
         return None;
     }
@@ -131,10 +146,11 @@ fn op_in(line: &[u8]) -> Option<(u32, Op)>
 }
 
 /// What an operation's line says: its number, and the operation. `None`: it is outside the grammar.
-pub fn op_of(line: &[u8]) -> Option<(u32, Op)>
-    ensures sound { IfSome result (λ r. IsOpLine line.now r.0 r.1) }
-    ensures complete { (number : ℕ) (op : book.Op) → IsOpLine line.now number op → result
+/// The content is lent from the line or from the room, where it is put as the line spells it.
+pub fn op_of<'a>(line: &'a [u8], room: &'a mut [u8; 1024]) -> Option<(u32, Op<'a>)>
+    ensures sound { IfSome result (λ r. IsOpLine line.entry.now r.0 r.1) }
+    ensures complete { (number : ℕ) (op : book.Op) → IsOpLine line.entry.now number op → result
         ≡ Some (number, op) }
 {
-    op_in(line)
+    op_in(line, room)
 }

@@ -202,7 +202,7 @@ fn push_server_did(did: &ServerDid, out: &mut Text)
     }
 }
 
-fn push_client_did(did: &ClientDid, out: &mut Text)
+fn push_client_did(did: &ClientDid<'_>, out: &mut Text)
     requires { length out.old + 3140 ≤ 4096 }
     ensures text { out.new ≡ out.old ++ trace.client_text did.now }
     ensures room { length out.new ≤ length out.old + 3140 }
@@ -271,7 +271,7 @@ fn push_command(command: &Command, out: &mut Text)
 
 // What the controller says.
 #[tactic(auto, unfolding(peg_model::specs::Trace::said_text))]
-fn push_control_said(said: &Said, out: &mut Text)
+fn push_control_said(said: &Said<'_>, out: &mut Text)
     requires room { length out.old + 300 ≤ 4096 }
     requires control { IsControlSaid said.now }
     ensures text { out.new ≡ out.old ++ trace.said_text said.now }
@@ -304,7 +304,7 @@ fn push_control_said(said: &Said, out: &mut Text)
 }
 
 #[tactic(auto, unfolding(peg_model::specs::Trace::said_text))]
-fn push_said(said: &Said, out: &mut Text)
+fn push_said(said: &Said<'_>, out: &mut Text)
     requires { length out.old + 3200 ≤ 4096 }
     ensures text { out.new ≡ out.old ++ trace.said_text said.now }
     ensures room { length out.new ≤ length out.old + 3200 }
@@ -360,7 +360,7 @@ fn push_sent(sent: &Option<(u32, u32)>, out: &mut Text)
 }
 
 /// Prints the text of an outcome, without a number and without what was sent.
-pub fn said_text(said: &Said, out: &mut Text)
+pub fn said_text(said: &Said<'_>, out: &mut Text)
     ensures { out.new ≡ trace.said_text said.now }
 {
     out.clear();
@@ -368,7 +368,7 @@ pub fn said_text(said: &Said, out: &mut Text)
 }
 
 /// Prints the text of an outcome and of what was sent, without a number.
-pub fn body_text(line: &Line, out: &mut Text)
+pub fn body_text(line: &Line<'_>, out: &mut Text)
     ensures { out.new ≡ trace.body_text line.now }
 {
     out.clear();
@@ -377,7 +377,7 @@ pub fn body_text(line: &Line, out: &mut Text)
 }
 
 /// Prints the line of the trace at this place.
-pub fn line_text(place: u64, line: &Line, out: &mut Text)
+pub fn line_text(place: u64, line: &Line<'_>, out: &mut Text)
     ensures { out.new ≡ trace.line_text place line.now }
 {
     out.clear();
@@ -387,7 +387,7 @@ pub fn line_text(place: u64, line: &Line, out: &mut Text)
     push_sent(&line.sent, out);
 }
 
-fn push_issued(op: &Op, out: &mut Text)
+fn push_issued(op: &Op<'_>, out: &mut Text)
     requires { length out.old + 60 ≤ 4096 }
     ensures text { out.new
         ≡ out.old ++ (codes " issued " ++ decimal op.now.issued ++ end_text op.now.answered) }
@@ -401,7 +401,7 @@ fn push_issued(op: &Op, out: &mut Text)
 }
 
 // An answered read says what it was given.
-fn push_read(op: &Op, out: &mut Text)
+fn push_read(op: &Op<'_>, out: &mut Text)
     requires room { length out.old + 3300 ≤ 4096 }
     requires read { op.now.act ≡ Act.Read }
     ensures { out.new ≡ out.old ++ rest_text op.now }
@@ -414,7 +414,7 @@ fn push_read(op: &Op, out: &mut Text)
     }
 }
 
-fn push_write(op: &Op, out: &mut Text)
+fn push_write(op: &Op<'_>, out: &mut Text)
     requires room { length out.old + 3300 ≤ 4096 }
     requires write { op.now.act ≡ Act.Write }
     ensures { out.new ≡ out.old ++ rest_text op.now }
@@ -426,7 +426,7 @@ fn push_write(op: &Op, out: &mut Text)
 }
 
 /// Prints the line of an operation of a history.
-pub fn op_text(number: u32, op: &Op, out: &mut Text)
+pub fn op_text(number: u32, op: &Op<'_>, out: &mut Text)
     ensures { out.new ≡ trace.op_text number op.now }
 {
     out.clear();
@@ -454,6 +454,14 @@ pub fn history_text(count: u32, out: &mut Text)
 {
     out.clear();
     out.push_word_number(b"history ", u64::from(count));
+}
+
+/// Prints the line `datagrams`: how many a node took.
+pub fn datagrams_text(count: u64, out: &mut Text)
+    ensures { out.new ≡ codes "datagrams " ++ decimal count }
+{
+    out.clear();
+    out.push_word_number(b"datagrams ", count);
 }
 
 /// Prints the line `at`: a place of an order.

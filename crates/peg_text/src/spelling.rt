@@ -1,5 +1,5 @@
 //! Bytes as they are spelled in words.
-ghost use Rattle.std.specs.Prelude.{◌≡◌, ◌+◌, ◌<◌, ◌≤◌, IfSome, length, slice_index, option_map};
+ghost use Rattle.std.specs.Prelude.{◌≡◌, ◌+◌, ◌<◌, ◌≤◌, IfSome, length, slice_index, take, option_map};
 ghost use Rattle.peg_model.specs.Text.{hex_digit};
 ghost use Rattle.peg_text.specs.Reading as reading;
 
@@ -92,21 +92,42 @@ fn next_byte(form: Form, text: &[u8]) -> Option<(u8, &[u8])>
     Some((byte, after))
 }
 
-/// The bytes that a word spells, where these are at most so many.
-pub(crate) fn spelled(form: Form, most: usize, word: &[u8]) -> Option<ArrayVec<u8, 1024>>
-    requires { most ≤ 1024 }
-    ensures bytes { option_map (λ v. v.items) result ≡ reading.spelled form most word.now }
-    ensures few { IfSome result (λ v. length v.items ≤ most) }
+fn is_plain(byte: u8) -> bool
+    ensures { result ≡ reading.is_plain byte }
 {
-    let mut bytes = ArrayVec::new();
+    byte >= 33 && byte <= 126 && byte != b'%'
+}
+
+/// Whether each byte of a word spells itself.
+pub(crate) fn are_plain(word: &[u8]) -> bool
+    ensures { result ≡ reading.are_plain word.now }
+{
+    for byte in word {
+        if !is_plain(*byte) {
+            return false;
+        }
+    }
+    true
+}
+
+/// Puts the bytes that a word spells at the front of the room, where these are at most so many, and
+/// says how many they are.
+pub(crate) fn spelled(form: Form, most: usize, word: &[u8], room: &mut [u8]) -> Option<usize>
+    requires { most ≤ length room.old }
+    ensures bytes { option_map (λ count. take count room.new) result
+        ≡ reading.spelled form most word.now }
+    ensures few { IfSome result (λ count. count ≤ most) }
+{
+    let mut count = 0;
     let mut rest = word;
     while !rest.is_empty() {
-        if bytes.len() == most {
+        if count == most {
             return None;
         }
         let (byte, after) = next_byte(form, rest)?;
-        bytes.push(byte);
+        room[count] = byte;
+        count += 1;
         rest = after;
     }
-    Some(bytes)
+    Some(count)
 }

@@ -20,14 +20,14 @@ fn key_k() -> Result<Key, KeyFault> {
     Key::read(b"k")
 }
 
-fn delivery_in(entry: &Option<Entry>) -> Option<(u64, u64)> {
+fn delivery_in(entry: &Option<Entry<'_>>) -> Option<(u64, u64)> {
     match entry {
         Some(Entry::Event(Event::Deliver { packet, pick })) => Some((*packet, *pick)),
         _ => None,
     }
 }
 
-fn key_in(entry: &Option<Entry>) -> Option<&[u8]> {
+fn key_in<'a>(entry: &'a Option<Entry<'_>>) -> Option<&'a [u8]> {
     match entry {
         Some(Entry::Event(Event::Promote { key })) => Some(key.bytes()),
         _ => None,
@@ -37,11 +37,12 @@ fn key_in(entry: &Option<Entry>) -> Option<&[u8]> {
 #[test]
 fn events_are_read(rt: HostRuntime) -> Result<(), Fail> {
     let config = config_in(1)?;
-    let delivery = event_of(&config, b"deliver 7");
+    let mut room = [0; 1024];
+    let delivery = event_of(&config, b"deliver 7", &mut room);
     assert_eq!(rt; delivery_in(&delivery), Some((7, 0)));
-    let greatest = event_of(&config, b"deliver 0 18446744073709551615");
+    let greatest = event_of(&config, b"deliver 0 18446744073709551615", &mut room);
     assert_eq!(rt; delivery_in(&greatest), Some((0, 18446744073709551615)));
-    let promotion = event_of(&config, b"promote a%25%00~%FF");
+    let promotion = event_of(&config, b"promote a%25%00~%FF", &mut room);
     assert_eq!(rt;
         key_in(&promotion).ok_or("no key")?,
         b"a%\x00~\xff".as_slice()
@@ -52,6 +53,7 @@ fn events_are_read(rt: HostRuntime) -> Result<(), Fail> {
 #[test]
 fn each_kind_of_line_is_read(rt: HostRuntime) -> Result<(), Fail> {
     let config = config_in(1)?;
+    let mut room = [0; 1024];
     for line in [
         b"read 1 k".as_slice(),
         b"write 1 k =".as_slice(),
@@ -71,7 +73,7 @@ fn each_kind_of_line_is_read(rt: HostRuntime) -> Result<(), Fail> {
         b"plan 8 2".as_slice(),
         b"end".as_slice(),
     ] {
-        assert!(rt; event_of(&config, line).is_some());
+        assert!(rt; event_of(&config, line, &mut room).is_some());
     }
     Ok(())
 }
@@ -79,6 +81,7 @@ fn each_kind_of_line_is_read(rt: HostRuntime) -> Result<(), Fail> {
 #[test]
 fn other_bytes_are_no_line(rt: HostRuntime) -> Result<(), Fail> {
     let config = config_in(1)?;
+    let mut room = [0; 1024];
     for line in [
         b"".as_slice(),
         b"read 00 k".as_slice(),
@@ -110,7 +113,7 @@ fn other_bytes_are_no_line(rt: HostRuntime) -> Result<(), Fail> {
         b"End".as_slice(),
         b"end ".as_slice(),
     ] {
-        assert!(rt; event_of(&config, line).is_none());
+        assert!(rt; event_of(&config, line, &mut room).is_none());
     }
     Ok(())
 }
@@ -153,7 +156,7 @@ fn other_bytes_are_no_rack(rt: HostRuntime) {
     }
 }
 
-fn prints(rt: &impl Abort, said: Said, text: &[u8]) {
+fn prints(rt: &impl Abort, said: Said<'_>, text: &[u8]) {
     let mut out = Text::make();
     said_text(&said, &mut out);
     assert_eq!(rt; out.bytes(), text);
@@ -587,15 +590,21 @@ fn what_the_controller_did_is_printed(rt: HostRuntime) -> Result<(), Fail> {
 
 #[test]
 fn whole_lines_are_printed(rt: HostRuntime) -> Result<(), Fail> {
-    let said = Said::Retries { number: 1 };
     let mut out = Text::make();
     assert_eq!(rt; out.bytes(), b"".as_slice());
-    line_text(12, &Line { said, sent: None }, &mut out);
+    line_text(
+        12,
+        &Line {
+            said: Said::Retries { number: 1 },
+            sent: None,
+        },
+        &mut out,
+    );
     assert_eq!(rt; out.bytes(), b"12 controller retries 1".as_slice());
     line_text(
         12,
         &Line {
-            said,
+            said: Said::Retries { number: 1 },
             sent: Some((3, 3)),
         },
         &mut out,
@@ -603,7 +612,7 @@ fn whole_lines_are_printed(rt: HostRuntime) -> Result<(), Fail> {
     assert_eq!(rt; out.bytes(), b"12 controller retries 1 sends 3".as_slice());
     body_text(
         &Line {
-            said,
+            said: Said::Retries { number: 1 },
             sent: Some((3, 5)),
         },
         &mut out,
@@ -618,76 +627,62 @@ fn whole_lines_are_printed(rt: HostRuntime) -> Result<(), Fail> {
     Ok(())
 }
 
-fn spells(rt: &impl Abort, number: u32, op: Op, line: &[u8]) {
+fn spells(rt: &impl Abort, number: u32, op: Op<'_>, line: &[u8]) {
     let mut out = Text::make();
+    let mut room = [0; 1024];
     op_text(number, &op, &mut out);
     assert_eq!(rt; out.bytes(), line);
-    assert_eq!(rt; op_of(line), Some((number, op)));
+    assert_eq!(rt; op_of(line, &mut room), Some((number, op)));
+}
+
+fn op_by(act: Act, content: Content<'_>, answered: Option<u64>) -> Result<Op<'_>, KeyFault> {
+    Ok(Op {
+        client: ClientId(1023),
+        key: key_k()?,
+        act,
+        content,
+        issued: 2,
+        answered,
+    })
 }
 
 #[test]
 fn operations_are_printed_and_read(rt: HostRuntime) -> Result<(), Fail> {
-    let client = ClientId(1023);
-    let key = key_k()?;
     let content = Content::Present(Value::read(b"x")?);
-    let read = Op {
-        client,
-        key,
-        act: Act::Read,
-        content: Content::Absent,
-        issued: 2,
-        answered: None,
-    };
-    let write = Op {
-        client,
-        key,
-        act: Act::Write,
-        content,
-        issued: 2,
-        answered: None,
-    };
-    spells(&rt, 0, read, b"op 0 client 1023 read k issued 2 open");
     spells(
         &rt,
         0,
-        Op {
-            answered: Some(3),
-            ..read
-        },
+        op_by(Act::Read, Content::Absent, None)?,
+        b"op 0 client 1023 read k issued 2 open",
+    );
+    spells(
+        &rt,
+        0,
+        op_by(Act::Read, Content::Absent, Some(3))?,
         b"op 0 client 1023 read k issued 2 answered 3 -",
     );
     spells(
         &rt,
         0,
-        Op {
-            answered: Some(3),
-            content,
-            ..read
-        },
+        op_by(Act::Read, content.again(), Some(3))?,
         b"op 0 client 1023 read k issued 2 answered 3 =x",
     );
     spells(
         &rt,
         4294967295,
-        write,
+        op_by(Act::Write, content.again(), None)?,
         b"op 4294967295 client 1023 write k =x issued 2 open",
     );
     spells(
         &rt,
         1,
-        Op {
-            answered: Some(3),
-            ..write
-        },
+        op_by(Act::Write, content, Some(3))?,
         b"op 1 client 1023 write k =x issued 2 answered 3",
     );
     spells(
         &rt,
         1,
-        Op {
-            content: Content::Absent,
-            ..write
-        },
+        op_by(Act::Write, Content::Absent, None)?,
         b"op 1 client 1023 write k - issued 2 open",
     );
     Ok(())
@@ -695,6 +690,7 @@ fn operations_are_printed_and_read(rt: HostRuntime) -> Result<(), Fail> {
 
 #[test]
 fn other_bytes_are_no_operation(rt: HostRuntime) {
+    let mut room = [0; 1024];
     for line in [
         b"".as_slice(),
         b"op 4294967296 client 0 read k issued 2 open".as_slice(),
@@ -706,6 +702,6 @@ fn other_bytes_are_no_operation(rt: HostRuntime) {
         b"op 0 client 0 write k =x issued 2 answered 3 -".as_slice(),
         b"op 0 client 0 delete k issued 2 open".as_slice(),
     ] {
-        assert!(rt; op_of(line).is_none());
+        assert!(rt; op_of(line, &mut room).is_none());
     }
 }

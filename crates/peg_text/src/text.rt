@@ -81,7 +81,7 @@ impl Text {
         self.push_all_spelled(key.bytes());
     }
 
-    pub(crate) fn push_content(&mut self, content: &Content)
+    pub(crate) fn push_content(&mut self, content: &Content<'_>)
         requires { length self.old + 3073 ≤ 4096 }
         ensures text { self.new ≡ self.old ++ content_word content.now }
         ensures room { length self.new ≤ length self.old + 3073 }

@@ -3,8 +3,9 @@ ghost use Rattle.std.specs.Prelude.{◌≡◌, ◌<◌, ◌≤◌, [], ◌∷◌
 ghost use Rattle.std.specs.Prelude.{option_map};
 ghost use Rattle.peg_text.specs.Reading as reading;
 ghost use Rattle.peg_text.specs.Racks as racks;
+ghost use Rattle.peg_text.specs.declared.spelling.Form.TheVariants as form;
 
-use crate::spelling::{Form, spelled};
+use crate::spelling::{Form, are_plain, spelled};
 use peg_event::Junk;
 use peg_name::{Content, Key, Value};
 use std::marker::Model;
@@ -34,41 +35,58 @@ fn number_below(limit: u64, word: &[u8]) -> Option<u64>
     if number < limit { Some(number) } else { None }
 }
 
+#[tactic(auto, using(crate::proofs::Plain::plain_spelled))]
 pub(crate) fn key_of(word: &[u8]) -> Option<Key>
     ensures { result ≡ reading.key_of word.now }
 {
-    let bytes = spelled(Form::Word, 32, word)?;
-    Key::read(bytes.as_slice()).ok()
+    if word.len() <= 32 && are_plain(word) {
+        return Key::read(word).ok();
+    }
+    let mut room = [0; 32];
+    let count = spelled(Form::Word, 32, word, &mut room)?;
+    Key::read(&room[..count]).ok()
 }
 
-fn value_of(most: usize, word: &[u8]) -> Option<Value>
+// The value that a word spells, lent from the word itself where its bytes spell themselves.
+#[tactic(auto, using(crate::proofs::Plain::plain_spelled))]
+fn value_in<'a>(most: usize, word: &'a [u8], room: &'a mut [u8; 1024]) -> Option<Value<'a>>
     requires { most ≤ 1024 }
-    ensures { result ≡ reading.value_of most word.now }
+    ensures { result ≡ reading.spelled form.Word most word.entry.now }
+{
+    if word.len() <= most && are_plain(word) {
+        return Value::read(word).ok();
+    }
+    let count = spelled(Form::Word, most, word, room)?;
+    Value::read(&room[..count]).ok()
+}
+
+fn value_of<'a>(most: usize, word: &'a [u8], room: &'a mut [u8; 1024]) -> Option<Value<'a>>
+    requires { most ≤ 1024 }
+    ensures { result ≡ reading.value_of most word.entry.now }
 {
     let [b'=', rest @ ..] = word else {
         return None;
     };
-    let bytes = spelled(Form::Word, most, rest)?;
-    Value::read(bytes.as_slice()).ok()
+    value_in(most, rest, room)
 }
 
-fn content_of(word: &[u8]) -> Option<Content>
-    ensures { result ≡ reading.content_of word.now }
+fn content_of<'a>(word: &'a [u8], room: &'a mut [u8; 1024]) -> Option<Content<'a>>
+    ensures { result ≡ reading.content_of word.entry.now }
 {
     if word == b"-".as_slice() {
         return Some(Content::Absent);
     }
-    Some(Content::Present(value_of(1024, word)?))
+    Some(Content::Present(value_of(1024, word, room)?))
 }
 
-fn junk_of(word: &[u8]) -> Option<Junk>
-    ensures { result ≡ reading.hex_of word.now }
+fn junk_of<'a>(word: &'a [u8], room: &'a mut [u8; 1024]) -> Option<Junk<'a>>
+    ensures { result ≡ reading.hex_of word.entry.now }
 {
     let [b'x', rest @ ..] = word else {
         return None;
     };
-    let bytes = spelled(Form::Hex, 1000, rest)?;
-    Some(Junk::make(bytes.as_slice()))
+    let count = spelled(Form::Hex, 1000, rest, room)?;
+    Some(Junk::make(&room[..count]))
 }
 
 fn first_space(text: &[u8]) -> Option<usize>
@@ -146,26 +164,26 @@ impl<'a> Words<'a> {
         key_of(self.next()?)
     }
 
-    pub(crate) fn value(&mut self, most: usize) -> Option<Value>
+    pub(crate) fn value(&mut self, most: usize, room: &'a mut [u8; 1024]) -> Option<Value<'a>>
         requires { most ≤ 1024 }
         ensures { option_map (λ value. (value, self.new)) result
             ≡ reading.next_by (reading.value_of most) self.old }
     {
-        value_of(most, self.next()?)
+        value_of(most, self.next()?, room)
     }
 
-    pub(crate) fn content(&mut self) -> Option<Content>
+    pub(crate) fn content(&mut self, room: &'a mut [u8; 1024]) -> Option<Content<'a>>
         ensures { option_map (λ content. (content, self.new)) result
             ≡ reading.next_by reading.content_of self.old }
     {
-        content_of(self.next()?)
+        content_of(self.next()?, room)
     }
 
-    pub(crate) fn junk(&mut self) -> Option<Junk>
+    pub(crate) fn junk(&mut self, room: &'a mut [u8; 1024]) -> Option<Junk<'a>>
         ensures { option_map (λ junk. (junk, self.new)) result
             ≡ reading.next_by reading.hex_of self.old }
     {
-        junk_of(self.next()?)
+        junk_of(self.next()?, room)
     }
 
     /// Reads just this word.

@@ -1,13 +1,13 @@
 -- A packet that a client takes, and what is noted of it.
 use Rattle.std.proofs.Common.{◌≡◌, ℕ, ◌+◌, ◌<◌, ◌≤◌, true, List, length, ap, sym, ◌∙◌, refl, subst}
-use Rattle.std.proofs.Common.{Some, arith, slice_get}
-use Rattle.std.specs.Prelude.{Ok, IfSome}
-use Rattle.std.specs.List.{AllByRecursion}
+use Rattle.std.proofs.Common.{Some, arith, slice_get, [], length-append}
+use Rattle.std.specs.Prelude.{Ok, Err, IfSome}
 use Rattle.peg_name.specs.declared.Node.{Node}
 use Rattle.peg_event.specs.declared.ClientDid.{ClientDid}
 use Rattle.peg_event.specs.declared.ClientDid.TheVariants as client_did
 use Rattle.peg_event.specs.declared.Said.{Said}
 use Rattle.peg_event.specs.declared.Said.TheVariants as said
+use Rattle.peg_event.specs.declared.Line.{Line}
 use Rattle.peg_model.specs.Words.{Step}
 use Rattle.peg_model.specs.Packet.{Packet}
 use Rattle.peg_model.specs.Client.{Client, client_step}
@@ -20,10 +20,10 @@ use Rattle.peg_ledger.specs.Kept.{IsOpen}
 use Rattle.peg_world.specs.Acting.{Acting, client_at, client_acts}
 use Rattle.peg_world.specs.Machine.{AreKept, world_of}
 use Rattle.peg_world.specs.Midway.{Midway, Came, at_place}
-use Rattle.peg_world.specs.Sound.{Each}
+use Rattle.peg_world.specs.declared.Halt.TheVariants as halt
 use Rattle.peg_world.proofs.Coming.{came}
 use Rattle.peg_world.proofs.Kept.{kept_answered}
-use Rattle.peg_world.proofs.Knowing.{KnowsAll, is_open, answered_length}
+use Rattle.peg_world.proofs.Knowing.{is_open, answered_length}
 use Rattle.peg_world.proofs.Taking.{taken_named}
 
 -- ---- the book's step
@@ -62,69 +62,76 @@ module _
         (sym (answer_noted step.did (client_acts n0 step) place packets operations fences promotions
         id))
 
-    pub answer_came :
-        (old now m2 : Midway) (n1 : Acting) (spare notes : ℕ) (operations2 : List Operation)
-        → (did : ClientDid) (told : Said) (q : Packet)
-        → p ≡ q → w0 ≡ old.world → n1 ≡ client_acts n0 step
-        → m2 ≡ record {
-          world = record (world_of n1 before packets operations fences promotions) {
-            place = place;
-          };
-          sent = n1.sent;
-          spare = spare;
-          notes = notes;
+    stepped_is :
+        (old : World) (q : Packet) → p ≡ q → w0 ≡ old
+        → reports (world_of (client_acts n0 step) place packets
+        (answered_after fences place id step.did operations) fences promotions) step.sent
+        (said.Client id step.did)
+        ≡ client_stepped (at_place old place) id (client_step (client_of old id) q)
+    stepped_is old q read seen =
+        answers_are
+        ∙ ap (λ w. client_stepped (at_place w place) id (client_step (client_of w id) p)) seen
+        ∙ ap (λ x. client_stepped (at_place old place) id (client_step (client_of old id) x)) read
+
+    -- more packets are in flight than a run has
+    pub answer_full :
+        (old : Midway) (q : Packet) → p ≡ q → w0 ≡ old.world → 200000 < length packets
+        → Came old old place
+        (client_stepped (at_place old.world place) id (client_step (client_of old.world id) q))
+        (Err halt.TooMuch)
+    answer_full old q read seen full =
+        let count = ap (λ (x : World × Line). length x.0.packets) (stepped_is old.world q read seen)
+        in
+        record {
+          comes = (refl, refl, omega (arith, full, count, length-append packets step.sent));
+          at = tt;
+          rack = refl;
+          packets = tt;
+          counted = omega arith;
         }
-        → now.world ≡ record m2.world { operations = operations2 } → now.sent ≡ m2.sent
-        → now.spare ≡ m2.spare
-        → operations2 ≡ answered_after m2.world.fences place id did m2.world.operations
-        → did ≡ step.did → told ≡ said.Client id did
-        → length packets + length n1.sent ≤ 200000 → length n1.sent ≤ spare
+
+    pub answer_came :
+        (old now : Midway) (n1 : Acting) (operations2 : List Operation)
+        → (did : ClientDid) (tells : Said) (q : Packet)
+        → p ≡ q → w0 ≡ old.world → n1 ≡ client_acts n0 step
+        → now.world ≡ world_of n1 place packets operations2 fences promotions → now.sent ≡ n1.sent
+        → operations2 ≡ answered_after fences place id did operations
+        → did ≡ step.did → tells ≡ said.Client id did
+        → length packets ≤ 200000 → n1.sent ≡ []
         → Came old now place
         (client_stepped (at_place old.world place) id (client_step (client_of old.world id) q))
-        (Ok told)
-    answer_came old now m2 n1 spare notes operations2 did told q read seen acts closed is sent room noted
-        answered tells within fits =
+        (Ok tells)
+    answer_came old now n1 operations2 did tells q read seen acts is sent noted answered says within
+        none =
         let os : List Operation = answered_after fences place id step.did operations in
         let operations_are : operations2 ≡ os =
-        noted
-        ∙ ap (λ (m : Midway). answered_after m.world.fences place id did m.world.operations) closed
-        ∙ ap (λ d. answered_after fences place id d operations) answered in
+        noted ∙ ap (λ d. answered_after fences place id d operations) answered in
         let world_is : now.world
         ≡ world_of (client_acts n0 step) place packets os fences promotions =
-        is ∙ ap (λ (m : Midway). record m.world { operations = operations2 }) closed
-        ∙ ap (λ (n : Acting). world_of n place packets operations2 fences promotions) acts
+        is ∙ ap (λ (n : Acting). world_of n place packets operations2 fences promotions) acts
         ∙ ap (λ xs. world_of (client_acts n0 step) place packets xs fences promotions)
         operations_are in
-        let sent_is : now.sent ≡ step.sent =
-        sent ∙ ap (λ (m : Midway). m.sent) closed ∙ ap (λ (n : Acting). n.sent) acts in
+        let sent_is : now.sent ≡ step.sent = sent ∙ ap (λ (n : Acting). n.sent) acts in
+        let empty : now.sent ≡ [] = sent ∙ none in
         came old now place
-        (client_stepped (at_place old.world place) id (client_step (client_of old.world id) q)) told
-        (ap (λ w. reports w now.sent told) world_is
+        (client_stepped (at_place old.world place) id (client_step (client_of old.world id) q))
+        tells
+        (ap (λ w. reports w now.sent tells) world_is
         ∙ ap (λ xs. reports (world_of (client_acts n0 step) place packets os fences promotions) xs
-        told) sent_is
+        tells) sent_is
         ∙ ap (λ s. reports (world_of (client_acts n0 step) place packets os fences promotions)
-        step.sent s) (tells ∙ ap (said.Client id) answered)
-        ∙ answers_are
-        ∙ ap (λ w. client_stepped (at_place w place) id (client_step (client_of w id) p)) seen
-        ∙ ap (λ x. client_stepped (at_place old.world place) id
-        (client_step (client_of old.world id) x)) read)
+        step.sent s) (says ∙ ap (said.Client id) answered)
+        ∙ stepped_is old.world q read seen)
         (omega (
           arith,
           within,
           ap (λ (w : World). length w.packets) world_is,
-          ap length sent_is,
-          ap (λ (n : Acting). length n.sent) acts,
+          ap length empty,
         ))
-        (omega (
-          arith,
-          fits,
-          room,
-          ap (λ (m : Midway). m.spare) closed,
-          ap length sent_is,
-          ap (λ (n : Acting). length n.sent) acts,
-        ))
+        (omega (arith, ap length empty))
         (ap (λ (w : World). w.place) world_is)
         (ap (λ (w : World). w.rack) world_is ∙ ap (λ (w : World). w.rack) seen)
+        (ap (λ (w : World). w.packets) world_is ∙ ap (λ (w : World). w.packets) seen)
         (omega (
           arith,
           ap (λ (w : World). length w.operations) world_is,
@@ -146,34 +153,16 @@ module _
         (kept.knows id (client_at n0 id) held) kept.issued))
 
     pub answer_kept :
-        (n2 : Acting) (place2 : ℕ) (flight0 flight2 : Flight)
-        → (operations2 operations3 : List Operation) (fences2 : List AppliedFence)
-        → (did : ClientDid)
-        → AreKept n0 before flight0 operations
+        (n1 : Acting) (flight : Flight) (operations3 : List Operation) (did : ClientDid)
+        → AreKept n0 before flight operations
         → slice_get n0.clients id ≡ Some (client_at n0 id) → (client_at n0 id).id ≡ id
-        → announces_in n0.rack p ≡ true → before < place → AreKept n2 place2 flight2 operations2
-        → n2.clients ≡ (client_acts n0 step).clients → place2 ≡ place → operations2 ≡ operations
-        → fences2 ≡ fences → did ≡ step.did
-        → operations3 ≡ answered_after fences2 place id did operations2
-        → AreKept n2 place2 flight2 operations3
-    answer_kept n2 place2 flight0 flight2 operations2 operations3 fences2 did kept held named goes
-        later kept2 clients placed same fenced answered noted =
-        let kept3 = kept_answered n0 before place flight0 operations fences id p kept held
+        → announces_in n0.rack p ≡ true → before < place → n1 ≡ client_acts n0 step
+        → did ≡ step.did → operations3 ≡ answered_after fences place id did operations
+        → AreKept n1 place flight operations3
+    answer_kept n1 flight operations3 did kept held named goes later acts answered noted =
+        let kept3 = kept_answered n0 before place flight operations fences id p kept held
         (taken_named n0.rack (client_at n0 id) p goes ∙ named) later goes in
         let are : operations3 ≡ answered_after fences place id step.did operations =
-        noted ∙ ap (answered_after fences2 place id did) same
-        ∙ ap (λ fs. answered_after fs place id did operations) fenced
-        ∙ ap (λ d. answered_after fences place id d operations) answered in
-        record {
-          format = kept2.format;
-          flown = kept2.flown;
-          knows =
-              subst (λ cs. Each (KnowsAll operations3) cs) (sym clients)
-              (subst (λ os. Each (KnowsAll os) (client_acts n0 step).clients) (sym are)
-              kept3.knows);
-          issued =
-              subst (λ at. AllByRecursion (λ (o : Operation). o.op.issued ≤ at) operations3)
-              (sym placed)
-              (subst (AllByRecursion (λ (o : Operation). o.op.issued ≤ place)) (sym are)
-              kept3.issued);
-        }
+        noted ∙ ap (λ d. answered_after fences place id d operations) answered in
+        subst (λ n. AreKept n place flight operations3) (sym acts)
+        (subst (AreKept (client_acts n0 step) place flight) (sym are) kept3)

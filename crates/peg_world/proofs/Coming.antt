@@ -33,6 +33,7 @@ stopped halts.TooMuch old mid now place after closes packets operations rack cou
       );
       at = tt;
       rack = ap (λ (w : World). w.rack) same ∙ rack;
+      packets = tt;
       counted =
           omega (
             arith,
@@ -47,12 +48,14 @@ pub came :
     → reports now.world now.sent said ≡ after
     → length now.world.packets + length now.sent ≤ 200000 → length now.sent ≤ now.spare
     → now.world.place ≡ place → now.world.rack ≡ old.world.rack
+    → now.world.packets ≡ old.world.packets
     → length now.world.operations ≤ length old.world.operations + 1
     → Came old now place after (Ok said)
-came old now place after said is within room at rack counted = record {
+came old now place after said is within room at rack packets counted = record {
   comes = record { is = is; within = within; room = room };
   at = at;
   rack = rack;
+  packets = packets;
   counted = counted;
 }
 
@@ -61,7 +64,7 @@ came old now place after said is within room at rack counted = record {
 module _
     (old now : Midway) (n0 n1 n2 : Acting) (before place : ℕ) (packets : List (Node × Packet))
     (operations : List Operation) (fences : List AppliedFence) (promotions : List Promotion)
-    (spare notes : ℕ) (book : World → World × Line)
+    (spare notes bytes : ℕ) (book : World → World × Line)
   where
     abbrev w0 : World
     w0 = world_of n0 before packets operations fences promotions
@@ -72,6 +75,7 @@ module _
       sent = n1.sent;
       spare = spare;
       notes = notes;
+      room = bytes;
     }
 
     pub stops :

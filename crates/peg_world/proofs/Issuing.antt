@@ -5,6 +5,7 @@ use Rattle.std.specs.Prelude.{Ok}
 use Rattle.std.specs.List.{AllByRecursion}
 use Rattle.peg_name.specs.declared.Node.{Node}
 use Rattle.peg_event.specs.declared.Ask.{Ask}
+use Rattle.peg_event.specs.declared.Ask.TheVariants as ask
 use Rattle.peg_event.specs.declared.Issue.{Issue}
 use Rattle.peg_event.specs.declared.Issue.TheVariants as issue
 use Rattle.peg_event.specs.declared.Op.{Op}
@@ -15,11 +16,13 @@ use Rattle.peg_model.specs.Client.{Client, begin_operation}
 use Rattle.peg_model.specs.World.{World, Operation, AppliedFence, Promotion, reports, issues, new_op}
 use Rattle.peg_model.specs.World.{issue_said, after_issue}
 use Rattle.peg_pool.specs.Flight.{Flight}
+use Rattle.peg_history.specs.Contents.{size_of}
 use Rattle.peg_ledger.specs.After.{issued_after}
 use Rattle.peg_ledger.specs.Kept.{IsFresh}
 use Rattle.peg_world.specs.Acting.{Acting, client_at, client_acts}
 use Rattle.peg_world.specs.Machine.{AreKept, world_of}
 use Rattle.peg_world.specs.Midway.{Midway, Came, at_place}
+use Rattle.peg_world.specs.Notes.{asked_size}
 use Rattle.peg_world.specs.Sound.{Each}
 use Rattle.peg_world.proofs.Asking.{begin_named}
 use Rattle.peg_world.proofs.Coming.{came}
@@ -37,6 +40,12 @@ issue_noted :
 issue_noted (issue.Busy seq) n place packets operations fences promotions op = refl
 issue_noted issue.Spent n place packets operations fences promotions op = refl
 issue_noted (issue.Sent seq) n place packets operations fences promotions op = refl
+
+pub op_size :
+    (id : ℕ) (key : List ℕ) (a : Ask) (place : ℕ)
+    → size_of (new_op id key a place).content ≡ asked_size a
+op_size id key ask.Read place = refl
+op_size id key (ask.Write content) place = refl
 
 -- ---- what the issue comes to
 
@@ -61,7 +70,7 @@ module _
         (new_op id key a place)))
 
     pub issue_came :
-        (old now m2 : Midway) (n1 : Acting) (spare notes : ℕ) (operations2 : List Operation)
+        (old now m2 : Midway) (n1 : Acting) (spare notes bytes : ℕ) (operations2 : List Operation)
         → (op : Op) (did : Issue) (said : Said)
         → w0 ≡ old.world → n1 ≡ client_acts n0 step
         → m2 ≡ record {
@@ -71,6 +80,7 @@ module _
           sent = n1.sent;
           spare = spare;
           notes = notes;
+          room = bytes;
         }
         → now.world ≡ record m2.world { operations = operations2 } → now.sent ≡ m2.sent
         → now.spare ≡ m2.spare
@@ -78,7 +88,7 @@ module _
         → did ≡ step.did → said ≡ issue_said id a did
         → length packets + length n1.sent ≤ 200000 → length n1.sent ≤ spare
         → Came old now place (issues (at_place old.world place) id key a) (Ok said)
-    issue_came old now m2 n1 spare notes operations2 op did said seen acts closed is sent room noted
+    issue_came old now m2 n1 spare notes bytes operations2 op did said seen acts closed is sent room noted
         named answered told within fits =
         let operations_are :
         operations2 ≡ issued_after (new_op id key a place) step.did operations =
@@ -120,6 +130,7 @@ module _
         ))
         (ap (λ (w : World). w.place) world_is)
         (ap (λ (w : World). w.rack) world_is ∙ ap (λ (w : World). w.rack) seen)
+        (ap (λ (w : World). w.packets) world_is ∙ ap (λ (w : World). w.packets) seen)
         (omega (
           arith,
           ap (λ (w : World). length w.operations) world_is,

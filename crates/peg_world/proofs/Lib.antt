@@ -15,3 +15,4 @@ pub mod Answering
 pub mod Distinct
 pub mod Delivering
 pub mod Switching
+pub mod Lines

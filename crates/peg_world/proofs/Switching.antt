@@ -61,7 +61,7 @@ noted_alike note.Nothing w s =
 module _
     (n0 n1 : Acting) (before place : ℕ) (packets : List (Node × Packet))
     (operations : List Operation) (fences : List AppliedFence) (promotions : List Promotion)
-    (id : ℕ) (p : Packet) (pick : ℕ) (old now : Midway) (spare notes : ℕ)
+    (id : ℕ) (p : Packet) (pick : ℕ) (old now : Midway) (spare notes bytes : ℕ)
   where
     abbrev step : SwitchStep
     step = switch_step (switch_at n0 id) p pick
@@ -78,6 +78,7 @@ module _
       sent = n1.sent;
       spare = spare;
       notes = notes;
+      room = bytes;
     }
 
     abbrev w2 : World
@@ -88,7 +89,7 @@ module _
         → Came old now place (book old.world) (Err halt)
     switch_stops halt seen acts closes =
         stops old now n0 n1 (switch_acts n0 step) before place packets operations fences promotions
-        spare notes book halt seen acts refl
+        spare notes bytes book halt seen acts refl
         (ap (λ (w : World). length (w.packets ++ step.sent)) (noted_is p step.did w2 step.state)
         ∙ ap (λ ps. length (ps ++ step.sent))
         (noted_alike (note_by p step.did) w2 step.state).packets
@@ -138,6 +139,8 @@ module _
         ))
         (ap (λ (w : World). w.place) world_is ∙ alike.place)
         (ap (λ (w : World). w.rack) world_is ∙ alike.rack ∙ ap (λ (w : World). w.rack) seen)
+        (ap (λ (w : World). w.packets) world_is ∙ alike.packets
+        ∙ ap (λ (w : World). w.packets) seen)
         (omega (
           arith,
           ap (λ (w : World). length w.operations) world_is,

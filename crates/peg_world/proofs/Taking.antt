@@ -1,5 +1,5 @@
 -- A client that takes a packet.
-use Rattle.std.proofs.Common.{◌≡◌, ℕ, ◌<◌, true, List, [], refl, arith}
+use Rattle.std.proofs.Common.{◌≡◌, ℕ, ◌<◌, true, List, [], ap, refl, arith}
 use Rattle.std.proofs.Common.{Option, Some, None, nat_lt}
 use Rattle.std.proofs.lemmas.Bool.{cond_both}
 use Rattle.std.proofs.lemmas.Bool.Decides.{nat_tests}
@@ -14,9 +14,12 @@ use Rattle.peg_model.specs.Packet as packet
 use Rattle.peg_model.specs.Packet.{Packet}
 use Rattle.peg_model.specs.Client.{Client, client_step, answered, is_read_of, is_write_of}
 use Rattle.peg_model.specs.Client.{awaits_read, awaits_write}
+use Rattle.peg_model.specs.World.{World}
 use Rattle.peg_packet.specs.Nodes.{announces_in}
 use Rattle.peg_world.specs.Machine.{is_pending}
+use Rattle.peg_world.specs.Midway.{packet_at}
 use Rattle.peg_world.specs.Sound.{IsClient}
+use Rattle.peg_world.specs.Telling.{content_in, did_told, without}
 
 reads_pending :
     (o : Option Pending) (c : Client) (client seq : ℕ) (key : List ℕ)
@@ -90,3 +93,31 @@ taken_is rack id c p goes is =
     (λ seq version e. record { named = is.named; speaks = is.speaks; asks = is.asks })
     (λ seq version content e. record { named = is.named; speaks = is.speaks; asks = is.asks })
     (λ epoch switch small. record { named = is.named; speaks = is.speaks; asks = small })
+
+-- what a client did with a packet, where the content that it was given is taken from the packet again
+pub restored :
+    (number : ℕ) (w : World) (c : Client) (p : Packet) → packet_at w number ≡ p
+    → did_told (Some number) w (without (client_step c p).did) ≡ (client_step c p).did
+unfolding client_step
+restored number w c (packet.ReadReply client seq version server switch key content) is =
+    cond_both (awaits_read c client seq key) (answered c (client_did.Read seq version content))
+    (refuse c client_did.Ignored)
+    (λ (s : Step Client (Node × Packet) ClientDid).
+    did_told (Some number) w (without s.did) ≡ s.did)
+    (λ e. ap (λ x. client_did.Read seq version (content_in x)) is) (λ e. refl)
+restored number w c (packet.WriteReply client seq version server switch key) is =
+    cond_both (awaits_write c client seq key) (answered c (client_did.Wrote seq version))
+    (refuse c client_did.Ignored)
+    (λ (s : Step Client (Node × Packet) ClientDid).
+    did_told (Some number) w (without s.did) ≡ s.did) (λ e. refl) (λ e. refl)
+restored number w c (packet.Announce epoch switch) is =
+    cond_both (nat_lt c.epoch epoch)
+    (record {
+      state = record c { switch = switch; epoch = epoch };
+      sent = [];
+      did = client_did.Moved switch epoch;
+    })
+    (refuse c client_did.Ignored)
+    (λ (s : Step Client (Node × Packet) ClientDid).
+    did_told (Some number) w (without s.did) ≡ s.did) (λ e. refl) (λ e. refl)
+restored number w c _ is = refl

@@ -3,4 +3,5 @@ pub mod Sound
 pub mod Midway
 pub mod Machine
 pub mod Notes
+pub mod Telling
 pub mod Running

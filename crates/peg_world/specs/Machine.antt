@@ -47,6 +47,7 @@ midway_of m = record {
   sent = m.nodes.sent;
   spare = m.soup.spare;
   notes = min m.operations.spare (min m.fences.spare m.promotions.spare);
+  room = m.operations.room;
 }
 
 pub record AreKept (nodes : Acting) (place : ℕ) (flight : Flight) (operations : List Operation) : Type

@@ -1,6 +1,6 @@
 -- A world in the middle of an event.
 --     Midway      the world without the packets that the event sends, these packets, and for how
---         many more packets and other entries there is memory
+--         many more packets, other entries and bytes of contents there is memory
 --     at_place w place      the world with the place of the next line
 --     Happened now after said      what has happened is all of the book's step but that its packets
 --         go into flight, which they may and can
@@ -29,6 +29,7 @@ pub record Midway : Type 0 where
   pub sent : List (Node × Packet)
   pub spare : ℕ
   pub notes : ℕ
+  pub room : ℕ
 
 abbrev pub at_place : World → ℕ → World
 at_place w place = record w { place = place }
@@ -64,6 +65,7 @@ pub record Came
     pub comes : Comes old now after result
     pub at : OnOk result (now.world.place ≡ place)
     pub rack : now.world.rack ≡ old.world.rack
+    pub packets : OnOk result (now.world.packets ≡ old.world.packets)
     pub counted : length now.world.operations ≤ length old.world.operations + 1
 
 -- the packet of a number

@@ -1,9 +1,13 @@
--- What a world notes of a switch's step beside the switch.
+-- What a world notes of a step beside the node.
+--     asked_size ask      how many bytes the content has that is written
 --     Note      a write was given a version, or a key was listed, or neither
 --     note_by p did, note_of read did      the note of a step on a packet
 --     noted w s note      the world with it
-use Rattle.std.specs.Prelude.{Option, Some, None}
+use Rattle.std.specs.Prelude.{ℕ, Option, Some, None}
 use Rattle.peg_name.specs.declared.Format.{Format}
+use Rattle.peg_event.specs.declared.Ask.{Ask}
+use Rattle.peg_event.specs.declared.Ask.TheVariants as ask
+use Rattle.peg_history.specs.Contents.{size_of}
 use Rattle.peg_event.specs.declared.SwitchDid.{SwitchDid}
 use Rattle.peg_event.specs.declared.SwitchDid.TheVariants as switch_did
 use Rattle.peg_event.specs.declared.Outcome.TheVariants as outcome
@@ -13,6 +17,10 @@ use Rattle.peg_model.specs.Switch.{Switch}
 use Rattle.peg_model.specs.World.{World, stamped, promoted}
 use Rattle.peg_world.specs.declared.saying.Note.{Note}
 use Rattle.peg_world.specs.declared.saying.Note.TheVariants as note
+
+abbrev pub asked_size : Ask → ℕ
+asked_size ask.Read = 0
+asked_size (ask.Write content) = size_of content
 
 abbrev pub note_by : Packet → SwitchDid → Note
 note_by (Write client seq key content) (switch_did.Wrote server written version) =

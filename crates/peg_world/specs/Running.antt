@@ -1,18 +1,23 @@
 -- A world that is being run, and where it stops.
---     Running      the book's world, the number of events that were stepped, and whether it is over
+--     Running      the book's world, the number of events that were stepped, whether it is over, and
+--         the line of the last event
 --     started rack keys      at the rack line
---     stepped r place event      after an event that is within the limits, and its line
+--     stepped r place event      after an event that is within the limits
+--     line_of number w said sent      the line of an event
 --     is_past r place event      whether the event is past a limit: it is the 1,000,001st, or its
 --         packets would pass 200,000, or an earlier event was past a limit
 --     Halted halt old now      what holds after a halt
 --     IsRun machine events is_over      what is kept between two events
 use Rattle.std.specs.Prelude.{◌≡◌, ◌+◌, ◌≤◌, ℕ, Bool, false, ◌||◌, nat_le, nat_lt, List, []}
-use Rattle.std.specs.Prelude.{length, IsTrue}
+use Rattle.std.specs.Prelude.{length, IsTrue, Option, None}
 use Rattle.peg_name.specs.Name.{Rack}
 use Rattle.peg_event.specs.declared.Event.{Event}
 use Rattle.peg_event.specs.declared.Line.{Line}
+use Rattle.peg_event.specs.declared.Said.{Said}
+use Rattle.peg_event.specs.declared.Said.TheVariants as said
 use Rattle.peg_model.specs.World.{World, start, step}
 use Rattle.peg_world.specs.Midway.{Midway}
+use Rattle.peg_world.specs.Telling.{said_told}
 use Rattle.peg_world.specs.declared.Halt.{Halt}
 use Rattle.peg_world.specs.declared.Halt.TheVariants as halt
 
@@ -20,14 +25,24 @@ pub record Running : Type 0 where
   pub world : World
   pub events : ℕ
   pub is_over : Bool
+  pub line : Line
 
 abbrev pub started : Rack → List (List ℕ) → Running
-started rack keys = record { world = start rack keys; events = 0; is_over = false }
+started rack keys =
+    record {
+      world = start rack keys;
+      events = 0;
+      is_over = false;
+      line = record { said = said.Rack; sent = None };
+    }
 
-abbrev pub stepped : Running → ℕ → Event → Running × Line
+abbrev pub stepped : Running → ℕ → Event → Running
 stepped r place e =
     let now = step r.world place e in
-    (record { world = now.0; events = r.events + 1; is_over = false }, now.1)
+    record { world = now.0; events = r.events + 1; is_over = false; line = now.1 }
+
+abbrev pub line_of : Option ℕ → World → Said → Option (ℕ × ℕ) → Line
+line_of number w s sent = record { said = said_told number w s; sent = sent }
 
 abbrev pub is_past : Running → ℕ → Event → Bool
 is_past r place e =

@@ -1,5 +1,5 @@
 //! Packets in flight are handed to their nodes.
-ghost use Rattle.std.specs.Prelude.{◌≡◌, ◌≤◌, ◌<◌, [], Some, slice_get, OnOk, IsOk};
+ghost use Rattle.std.specs.Prelude.{◌≡◌, ◌≤◌, ◌<◌, [], Some, length, slice_get, OnOk, IsOk};
 ghost use Rattle.peg_name.specs.declared.Node.TheVariants as node;
 ghost use Rattle.peg_model.specs.Client.{client_step};
 ghost use Rattle.peg_model.specs.Server.{server_step};
@@ -7,28 +7,50 @@ ghost use Rattle.peg_model.specs.Switch.{switch_step};
 ghost use Rattle.peg_model.specs.World as book;
 ghost use Rattle.peg_world.specs.Midway.{Came, at_place, packet_at};
 ghost use Rattle.peg_world.specs.Notes.{noted};
+ghost use Rattle.peg_world.specs.Telling.{told, number_at};
 
 use crate::Halt;
 use crate::machine::Machine;
 use crate::saying::{Note, note_of};
+use crate::telling::{size_of, without};
 use peg_event::Said;
 use peg_name::{ClientId, Node, OutOfMemory, ServerId, SwitchId};
 use peg_switch::most_packets;
 
+/// The most bytes of a content.
+const CONTENT_MOST: usize = 1024;
+
 impl Machine {
     /// The packet of a number is handed to its node, if there is one.
-    pub(crate) fn deliver(&mut self, place: u64, number: u64, pick: u64) -> Result<Said, Halt>
+    pub(crate) fn deliver(
+        &mut self,
+        place: u64,
+        number: u64,
+        pick: u64,
+    ) -> Result<Said<'static>, Halt>
         requires later { self.old.world.place < place }
         requires empty { self.old.sent ≡ [] }
         ensures { Came self.old self.new place (book.delivers_item (at_place self.old.world place)
-            number (slice_get self.old.world.packets number) pick) result }
+            number (slice_get self.old.world.packets number) pick)
+            (told (number_at self.old.world number) self.old.world result) }
     {
         let count = self.packets();
         if number >= u64::from(count) {
             self.close(place)?;
             return Ok(Said::NoSuchPacket { number, count });
         }
-        let number = number as u32;
+        self.hand(place, number as u32, pick)
+    }
+
+    /// A packet in flight is handed to its node.
+    fn hand(&mut self, place: u64, number: u32, pick: u64) -> Result<Said<'static>, Halt>
+        requires later { self.old.world.place < place }
+        requires empty { self.old.sent ≡ [] }
+        requires number { number < length self.old.world.packets }
+        ensures { Came self.old self.new place (book.delivers_item (at_place self.old.world place)
+            number (slice_get self.old.world.packets number) pick)
+            (told (Some number) self.old.world result) }
+    {
         let (to, _bytes) = self.soup.get(number);
         match &to {
             Node::Client(id) => self.to_client(place, number, *id),
@@ -38,8 +60,9 @@ impl Machine {
         }
     }
 
-    /// The packet of a number is handed to a client.
-    fn to_client(&mut self, place: u64, number: u32, id: ClientId) -> Result<Said, Halt>
+    /// The packet of a number is handed to a client. A content that it is given is left out of what
+    /// is said.
+    fn to_client(&mut self, place: u64, number: u32, id: ClientId) -> Result<Said<'static>, Halt>
         requires later { self.old.world.place < place }
         requires empty { self.old.sent ≡ [] }
         requires to { slice_get self.old.world.packets number
@@ -47,17 +70,25 @@ impl Machine {
         ensures { Came self.old self.new place
             (book.client_stepped (at_place self.old.world place) id
             (client_step (book.client_of self.old.world id) (packet_at self.old.world number)))
-            result }
+            (told (Some number) self.old.world result) }
     {
+        if self.is_full() {
+            return Err(Halt::TooMuch);
+        }
+        self.operations.reserve(CONTENT_MOST)?;
         let (_to, bytes) = self.soup.get(number);
         let did = self.nodes.client(id, bytes);
-        self.close(place)?;
+        prove!(size_of(&did) <= CONTENT_MOST);
+        self.place = place;
         self.operations.take_answer(&self.fences, id, place, &did);
-        Ok(Said::Client { client: id, did })
+        Ok(Said::Client {
+            client: id,
+            did: without(&did),
+        })
     }
 
     /// The packet of a number is handed to a server.
-    fn to_server(&mut self, place: u64, number: u32, id: ServerId) -> Result<Said, Halt>
+    fn to_server(&mut self, place: u64, number: u32, id: ServerId) -> Result<Said<'static>, Halt>
         requires later { self.old.world.place < place }
         requires empty { self.old.sent ≡ [] }
         requires to { slice_get self.old.world.packets number
@@ -65,9 +96,9 @@ impl Machine {
         ensures { Came self.old self.new place
             (book.server_stepped (at_place self.old.world place) id
             (server_step (book.server_of self.old.world id) (packet_at self.old.world number)))
-            result }
+            (told (Some number) self.old.world result) }
     {
-        self.reserve(1)?;
+        self.reserve(1, 0)?;
         let (_to, bytes) = self.soup.get(number);
         let did = self.nodes.server(id, bytes)?;
         self.close(place)?;
@@ -76,7 +107,13 @@ impl Machine {
     }
 
     /// The packet of a number is handed to a switch.
-    fn to_switch(&mut self, place: u64, number: u32, id: SwitchId, pick: u64) -> Result<Said, Halt>
+    fn to_switch(
+        &mut self,
+        place: u64,
+        number: u32,
+        id: SwitchId,
+        pick: u64,
+    ) -> Result<Said<'static>, Halt>
         requires later { self.old.world.place < place }
         requires empty { self.old.sent ≡ [] }
         requires to { slice_get self.old.world.packets number
@@ -85,10 +122,10 @@ impl Machine {
             (book.switch_stepped (at_place self.old.world place) id
             (packet_at self.old.world number)
             (switch_step (book.switch_of self.old.world id) (packet_at self.old.world number)
-            pick)) result }
+            pick)) (told (Some number) self.old.world result) }
     {
         let most = most_packets(self.nodes.config().format());
-        self.reserve(most)?;
+        self.reserve(most, 0)?;
         let (_to, bytes) = self.soup.get(number);
         let did = self.nodes.switch(id, bytes, pick);
         let note = note_of(bytes, &did);
@@ -127,17 +164,17 @@ impl Machine {
     }
 
     /// The packet of a number is handed to the controller.
-    fn to_controller(&mut self, place: u64, number: u32) -> Result<Said, Halt>
+    fn to_controller(&mut self, place: u64, number: u32) -> Result<Said<'static>, Halt>
         requires later { self.old.world.place < place }
         requires empty { self.old.sent ≡ [] }
         requires to { slice_get self.old.world.packets number
             ≡ Some (node.Controller, packet_at self.old.world number) }
         ensures { Came self.old self.new place
             (book.delivers (at_place self.old.world place) node.Controller
-            (packet_at self.old.world number) 0) result }
+            (packet_at self.old.world number) 0) (told (Some number) self.old.world result) }
     {
         let clients = self.nodes.config().clients() as usize;
-        self.reserve(clients + 1)?;
+        self.reserve(clients + 1, 0)?;
         let (_to, bytes) = self.soup.get(number);
         let did = self.nodes.controller(bytes);
         self.close(place)?;

@@ -5,11 +5,13 @@ ghost use Rattle.peg_client.specs.Fits.{ask_fits};
 ghost use Rattle.peg_model.specs.Reading.{packet_of};
 ghost use Rattle.peg_model.specs.World as book;
 ghost use Rattle.peg_world.specs.Midway.{Came, at_place, is_command};
+ghost use Rattle.peg_world.specs.Telling.{told, number_in};
 
 use crate::Halt;
 use crate::machine::Machine;
 use crate::saying::{
-    give_up_said, issue_said, junk_said, new_op, order_said, plan_said, resend_said, retry_said,
+    asked_size, give_up_said, issue_said, junk_said, new_op, order_said, plan_said, resend_said,
+    retry_said,
 };
 use peg_event::{Ask, Command, Event, Said};
 use peg_name::{ClientId, Content, Key, Node, ServerId, SwitchId};
@@ -21,8 +23,8 @@ impl Machine {
         place: u64,
         id: ClientId,
         key: &Key,
-        ask: &Ask,
-    ) -> Result<Said, Halt>
+        ask: &Ask<'_>,
+    ) -> Result<Said<'static>, Halt>
         requires later { self.old.world.place < place }
         requires empty { self.old.sent ≡ [] }
         requires few { length self.old.world.operations < 4000000000 }
@@ -31,30 +33,30 @@ impl Machine {
         ensures { Came self.old self.new place
             (book.issues (at_place self.old.world place) id key.now ask.now) result }
     {
-        self.reserve(1)?;
+        self.reserve(1, asked_size(ask))?;
         let op = new_op(id, key, ask, place);
         let issue = self.nodes.issue(id, key, ask);
         self.close(place)?;
-        self.operations.take_issue(op, &issue)?;
+        self.operations.take_issue(&op, &issue)?;
         Ok(issue_said(id, ask, &issue))
     }
 
     /// A client's request is to be sent again.
-    pub(crate) fn resend(&mut self, place: u64, id: ClientId) -> Result<Said, Halt>
+    pub(crate) fn resend(&mut self, place: u64, id: ClientId) -> Result<Said<'static>, Halt>
         requires later { self.old.world.place < place }
         requires empty { self.old.sent ≡ [] }
         requires id { id < self.old.world.rack.clients }
         ensures { Came self.old self.new place
             (book.resends (at_place self.old.world place) id) result }
     {
-        self.reserve(1)?;
+        self.reserve(1, 0)?;
         let resent = self.nodes.resend(id);
         self.close(place)?;
         Ok(resend_said(id, resent))
     }
 
     /// A client's operation is to be given up.
-    pub(crate) fn give_up(&mut self, place: u64, id: ClientId) -> Result<Said, Halt>
+    pub(crate) fn give_up(&mut self, place: u64, id: ClientId) -> Result<Said<'static>, Halt>
         requires later { self.old.world.place < place }
         requires empty { self.old.sent ≡ [] }
         requires id { id < self.old.world.rack.clients }
@@ -67,7 +69,7 @@ impl Machine {
     }
 
     /// Junk is handed to a node.
-    pub(crate) fn junk(&mut self, place: u64, to: Node, bytes: &[u8]) -> Result<Said, Halt>
+    pub(crate) fn junk(&mut self, place: u64, to: Node, bytes: &[u8]) -> Result<Said<'static>, Halt>
         requires later { self.old.world.place < place }
         requires empty { self.old.sent ≡ [] }
         ensures { Came self.old self.new place (book.reports (at_place self.old.world place) []
@@ -80,40 +82,40 @@ impl Machine {
 
 impl Machine {
     /// The controller is to order a command.
-    pub(crate) fn order(&mut self, place: u64, command: &Command) -> Result<Said, Halt>
+    pub(crate) fn order(&mut self, place: u64, command: &Command) -> Result<Said<'static>, Halt>
         requires later { self.old.world.place < place }
         requires empty { self.old.sent ≡ [] }
         ensures { Came self.old self.new place
             (book.orders (at_place self.old.world place) command.now) result }
     {
-        self.reserve(1)?;
+        self.reserve(1, 0)?;
         let order = self.nodes.order(command);
         self.close(place)?;
         Ok(order_said(command, &order))
     }
 
     /// The controller is to send again what may be lost.
-    pub(crate) fn retry(&mut self, place: u64) -> Result<Said, Halt>
+    pub(crate) fn retry(&mut self, place: u64) -> Result<Said<'static>, Halt>
         requires later { self.old.world.place < place }
         requires empty { self.old.sent ≡ [] }
         ensures { Came self.old self.new place
             (book.retries (at_place self.old.world place)) result }
     {
         let clients = self.nodes.config().clients() as usize;
-        self.reserve(clients + 1)?;
+        self.reserve(clients + 1, 0)?;
         let retry = self.nodes.retry();
         self.close(place)?;
         Ok(retry_said(&retry))
     }
 
     /// The controller is to ask for a report.
-    pub(crate) fn survey(&mut self, place: u64) -> Result<Said, Halt>
+    pub(crate) fn survey(&mut self, place: u64) -> Result<Said<'static>, Halt>
         requires later { self.old.world.place < place }
         requires empty { self.old.sent ≡ [] }
         ensures { Came self.old self.new place
             (book.surveys (at_place self.old.world place)) result }
     {
-        self.reserve(1)?;
+        self.reserve(1, 0)?;
         self.nodes.survey();
         self.close(place)?;
         Ok(Said::Surveys)
@@ -125,13 +127,13 @@ impl Machine {
         place: u64,
         promote_at: u64,
         demote_below: u64,
-    ) -> Result<Said, Halt>
+    ) -> Result<Said<'static>, Halt>
         requires later { self.old.world.place < place }
         requires empty { self.old.sent ≡ [] }
         ensures { Came self.old self.new place
             (book.plans (at_place self.old.world place) promote_at demote_below) result }
     {
-        self.reserve(1)?;
+        self.reserve(1, 0)?;
         let plan = self.nodes.plan(promote_at, demote_below);
         self.close(place)?;
         Ok(plan_said(&plan))
@@ -139,14 +141,16 @@ impl Machine {
 }
 
 impl Machine {
-    /// An event happens at its place, but that what it sends is not in flight yet.
+    /// An event happens at its place, but that what it sends is not in flight yet. What is said leaves
+    /// out the content of an answered read.
     #[tactic(auto, unfolding(peg_model::specs::World::happens))]
-    pub(crate) fn happen(&mut self, place: u64, event: &Event) -> Result<Said, Halt>
+    pub(crate) fn happen(&mut self, place: u64, event: &Event<'_>) -> Result<Said<'static>, Halt>
         requires later { self.old.world.place < place }
         requires empty { self.old.sent ≡ [] }
         requires few { length self.old.world.operations < 4000000000 }
         requires in_rack { EventInRack self.old.world.rack event.now }
-        ensures { Came self.old self.new place (book.step self.old.world place event.now) result }
+        ensures { Came self.old self.new place (book.step self.old.world place event.now)
+            (told (number_in event.now self.old.world) self.old.world result) }
     {
         match event {
             Event::Read { client, key } => {
@@ -154,7 +158,7 @@ impl Machine {
                 self.issue(place, *client, key, &asks[0])
             }
             Event::Write { client, key, value } => {
-                let asks = [Ask::Write(Content::Present(*value))];
+                let asks = [Ask::Write(Content::Present(value.again()))];
                 self.issue(place, *client, key, &asks[0])
             }
             Event::Delete { client, key } => {
@@ -177,11 +181,12 @@ impl Machine {
 
     /// The controller is told to order a command.
     #[tactic(auto, unfolding(peg_model::specs::World::happens))]
-    fn command(&mut self, place: u64, event: &Event) -> Result<Said, Halt>
+    fn command(&mut self, place: u64, event: &Event<'_>) -> Result<Said<'static>, Halt>
         requires later { self.old.world.place < place }
         requires empty { self.old.sent ≡ [] }
         requires command { is_command event.now ≡ true }
-        ensures { Came self.old self.new place (book.step self.old.world place event.now) result }
+        ensures { Came self.old self.new place (book.step self.old.world place event.now)
+            (told (number_in event.now self.old.world) self.old.world result) }
     {
         match event {
             Event::Promote { key } => self.order(place, &Command::Promote { key: *key }),

@@ -2,7 +2,7 @@
 #![tactic(auto)]
 
 ghost use Rattle.std.specs.Prelude.{◌≡◌, ◌≢◌, ◌<◌, ◌≤◌, AllPairs, length, map, slice_get, Some};
-ghost use Rattle.std.specs.Prelude.{IfOk, IfErr, OnOk, Err, true, false};
+ghost use Rattle.std.specs.Prelude.{IfOk, IfErr, OnOk, Err, true, false, ℕ, Option};
 ghost use Rattle.peg_history.specs.Groups.{key_orders};
 ghost use Rattle.peg_model.specs.Datagrams.{spelled};
 ghost use Rattle.peg_model.specs.Schedule.{EventInRack};
@@ -10,11 +10,13 @@ ghost use Rattle.peg_model.specs.World.{history};
 ghost use Rattle.peg_world.specs.Running.{started, stepped, is_past, Halted};
 
 use machine::Machine;
+use peg_event::Said;
 pub use peg_event::{Event, Line};
 use peg_history::{History, KeyOrder};
 use peg_name::{Config, Key, Node, OutOfMemory};
 use std::alloc::Global;
 use std::marker::Model;
+use telling::said_of;
 use thiserror::Error;
 
 mod delivery;
@@ -23,6 +25,7 @@ mod machine;
 mod making;
 mod nodes;
 mod saying;
+mod telling;
 
 /// Why a world stops.
 #[derive(Clone, Copy, Debug, PartialEq, Eq, Error)]
@@ -47,16 +50,20 @@ impl From<OutOfMemory> for Halt {
 /// The most events of a run.
 const EVENTS_MOST: u64 = 1_000_000;
 
-/// The rack as one machine.
+/// The rack as one machine. Of what its last line says it keeps all but the content that a read was
+/// answered with, which lies in the packet that gave it.
 #[derive(Drop)]
 pub struct World {
     machine: Machine,
     events: u64,
     is_over: bool,
+    said: Said<'static>,
+    sent: Option<(u32, u32)>,
+    delivered: Option<u64>,
 }
 
 impl Model for World {
-    ghost use Rattle.peg_world.specs.Running.{Running, IsRun};
+    ghost use Rattle.peg_world.specs.Running.{Running, IsRun, line_of};
 
     ghost Value = { Running };
 
@@ -64,6 +71,7 @@ impl Model for World {
       world = w.machine.world;
       events = w.events;
       is_over = w.is_over;
+      line = line_of w.delivered w.machine.world w.said w.sent;
     } };
 
     ghost invariant = { λ w. IsRun w.machine w.events w.is_over };
@@ -82,6 +90,9 @@ impl World {
             machine: Machine::make(alloc, config, keys)?,
             events: 0,
             is_over: false,
+            said: Said::Rack,
+            sent: None,
+            delivered: None,
         })
     }
 
@@ -116,15 +127,26 @@ impl World {
         self.machine.orders(alloc)
     }
 
-    /// One event at a line of the schedule, whose place is above that of the line before. What the
-    /// event names is in the rack. `TooMuch` exactly at the 1,000,001st event, where more than
+    /// The line of the last event, or that of the rack line. A content is lent from the packet that
+    /// gave it.
+    pub fn line(&self) -> Line<'_>
+        ensures { result ≡ self.now.line }
+    {
+        Line {
+            said: said_of(&self.machine, self.delivered, &self.said),
+            sent: self.sent,
+        }
+    }
+
+    /// One event at a line of the schedule, whose place is above that of the line before: then
+    /// `line` is its line. What the event names is in the rack. `TooMuch` exactly at the 1,000,001st event, where more than
     /// 200,000 packets would be in flight, and after either; the packets and the operations are
     /// then as before. After `OutOfMemory` the world is as before: the room for what a step may
     /// send and note is made before its node steps.
-    pub fn step(&mut self, place: u64, event: &Event) -> Result<Line, Halt>
+    pub fn step(&mut self, place: u64, event: &Event<'_>) -> Result<(), Halt>
         requires in_rack { EventInRack self.old.world.rack event.now }
         requires later { self.old.world.place < place }
-        ensures ok { IfOk result (λ line. stepped self.old place event.now ≡ (self.new, line)) }
+        ensures ok { OnOk result (self.new ≡ stepped self.old place event.now) }
         ensures within { OnOk result (is_past self.old place event.now ≡ false) }
         ensures at { OnOk result (self.new.world.place ≡ place) }
         ensures rack { self.new.world.rack ≡ self.old.world.rack }
@@ -135,11 +157,14 @@ impl World {
             self.is_over = true;
             return Err(Halt::TooMuch);
         }
+        let delivered = self.machine.delivered(event);
         match self.machine.happen(place, event) {
             Ok(said) => {
-                let sent = self.machine.send()?;
+                self.sent = self.machine.send()?;
                 self.events += 1;
-                Ok(Line { said, sent })
+                self.said = said;
+                self.delivered = delivered;
+                Ok(())
             }
             Err(Halt::OutOfMemory) => Err(Halt::OutOfMemory),
             Err(Halt::TooMuch) => {

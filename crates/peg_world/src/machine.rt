@@ -1,6 +1,6 @@
 //! The rack as one machine, in the middle of an event or between two.
 ghost use Rattle.std.specs.Prelude.{◌≡◌, ◌≤◌, ◌<◌, ◌+◌, ◌++◌, [], length, map, slice_get, Some, IfOk};
-ghost use Rattle.std.specs.Prelude.{OnOk, IsOk, true};
+ghost use Rattle.std.specs.Prelude.{OnOk, IsOk, true, nat_lt};
 ghost use Rattle.peg_history.specs.Groups.{key_orders};
 ghost use Rattle.peg_model.specs.Datagrams.{spelled};
 ghost use Rattle.peg_model.specs.Packet.{are_distinct};
@@ -96,18 +96,27 @@ impl Machine {
 }
 
 impl Machine {
-    /// Makes room for what an event may send, and for all that is noted of it.
-    pub(crate) fn reserve(&mut self, packets: usize) -> Result<(), OutOfMemory>
+    /// Makes room for what an event may send, and for all that is noted of it, with contents of so
+    /// many bytes together.
+    pub(crate) fn reserve(&mut self, packets: usize, bytes: usize) -> Result<(), OutOfMemory>
         ensures world { self.new.world ≡ self.old.world }
         ensures sent { self.new.sent ≡ self.old.sent }
         ensures room { OnOk result (packets ≤ self.new.spare) }
         ensures notes { OnOk result (1 ≤ self.new.notes) }
+        ensures bytes { OnOk result (bytes ≤ self.new.room) }
     {
         self.soup.reserve(packets)?;
-        self.operations.reserve()?;
+        self.operations.reserve(bytes)?;
         self.fences.reserve()?;
         self.promotions.reserve()?;
         Ok(())
+    }
+
+    /// Whether more packets are in flight than a run has.
+    pub(crate) fn is_full(&self) -> bool
+        ensures { result ≡ nat_lt 200000 (length self.now.world.packets) }
+    {
+        self.soup.len() as usize > PACKETS_MOST
     }
 
     /// Ends an event at its place, unless its packets would pass the limit.

@@ -81,7 +81,7 @@ impl Nodes {
 
 impl Nodes {
     /// A client's operation is to begin.
-    pub(crate) fn issue(&mut self, id: ClientId, key: &Key, ask: &Ask) -> Issue
+    pub(crate) fn issue(&mut self, id: ClientId, key: &Key, ask: &Ask<'_>) -> Issue
         requires id { id < self.old.rack.clients }
         requires empty { self.old.sent ≡ [] }
         requires ask { ask_fits self.old.rack.format ask.now ≡ true }
@@ -94,7 +94,7 @@ impl Nodes {
         ensures few { length self.new.sent ≤ 1 }
     {
         reads_back_what_is_spelled();
-        self.clients[id.0 as usize].issue(key, *ask, &mut self.post)
+        self.clients[id.0 as usize].issue(key, ask, &mut self.post)
     }
 }
 
@@ -127,7 +127,7 @@ impl Nodes {
     }
 
     /// A packet of the rack is handed to a client.
-    pub(crate) fn client(&mut self, id: ClientId, bytes: &[u8]) -> ClientDid
+    pub(crate) fn client<'a>(&mut self, id: ClientId, bytes: &'a [u8]) -> ClientDid<'a>
         requires id { id < self.old.rack.clients }
         requires empty { self.old.sent ≡ [] }
         requires reads { packet_of bytes.now
@@ -136,9 +136,9 @@ impl Nodes {
         ensures held { slice_get self.old.clients id ≡ Some (client_at self.old id) }
         ensures named { (client_at self.old id).id ≡ id }
         ensures answer { result
-            ≡ (client.client_step (client_at self.old id) (packet_read bytes.now)).did }
+            ≡ (client.client_step (client_at self.old id) (packet_read bytes.entry.now)).did }
         ensures after { self.new ≡ client_acts self.old
-            (client.client_step (client_at self.old id) (packet_read bytes.now)) }
+            (client.client_step (client_at self.old id) (packet_read bytes.entry.now)) }
         ensures few { self.new.sent ≡ [] }
     {
         self.clients[id.0 as usize].step(bytes)

@@ -9,7 +9,7 @@ ghost use Rattle.peg_event.specs.declared.Outcome.TheVariants as outcome;
 ghost use Rattle.peg_model.specs.Packet as model;
 ghost use Rattle.peg_model.specs.Packet.{in_range, what_in_range};
 ghost use Rattle.peg_packet.specs.Seen.{seen, what_seen};
-ghost use Rattle.peg_world.specs.Notes.{note_by, note_of};
+ghost use Rattle.peg_world.specs.Notes.{note_by, note_of, asked_size};
 
 use peg_event::{
     Act, Ask, ClientDid, Command, ControlDid, Issue, Op, Order, Outcome, Plan, Retry, Said,
@@ -19,12 +19,12 @@ use peg_name::{ClientId, Content, Format, Key, Node, Seq, Version};
 use peg_packet::{Packet, What, decode, key_of};
 
 /// An operation as it begins at this place.
-pub(crate) fn new_op(client: ClientId, key: &Key, ask: &Ask, place: u64) -> Op
+pub(crate) fn new_op<'a>(client: ClientId, key: &Key, ask: &Ask<'a>, place: u64) -> Op<'a>
     ensures { result ≡ new_op client key.now ask.now place }
 {
     let (act, content) = match ask {
         Ask::Read => (Act::Read, Content::Absent),
-        Ask::Write(content) => (Act::Write, *content),
+        Ask::Write(content) => (Act::Write, content.again()),
     };
     Op {
         client,
@@ -36,8 +36,18 @@ pub(crate) fn new_op(client: ClientId, key: &Key, ask: &Ask, place: u64) -> Op
     }
 }
 
+/// How many bytes the content has that is written.
+pub(crate) fn asked_size(ask: &Ask<'_>) -> usize
+    ensures { result ≡ asked_size ask.now }
+{
+    match ask {
+        Ask::Write(Content::Present(value)) => value.bytes().len(),
+        Ask::Read | Ask::Write(Content::Absent) => 0,
+    }
+}
+
 /// What is said of an operation that was to begin.
-pub(crate) fn issue_said(client: ClientId, ask: &Ask, issue: &Issue) -> Said
+pub(crate) fn issue_said<'a>(client: ClientId, ask: &Ask<'_>, issue: &Issue) -> Said<'a>
     ensures { result ≡ issue_said client ask.now issue.now }
 {
     match issue {
@@ -47,7 +57,7 @@ pub(crate) fn issue_said(client: ClientId, ask: &Ask, issue: &Issue) -> Said
     }
 }
 
-fn sent_said(client: ClientId, ask: &Ask, seq: Seq) -> Said
+fn sent_said<'a>(client: ClientId, ask: &Ask<'_>, seq: Seq) -> Said<'a>
     ensures { result ≡ issue_said client ask.now (issue.Sent seq) }
 {
     match ask {
@@ -58,7 +68,7 @@ fn sent_said(client: ClientId, ask: &Ask, seq: Seq) -> Said
 }
 
 /// What is said of a request that was to be sent again.
-pub(crate) fn resend_said(client: ClientId, resent: Option<Seq>) -> Said
+pub(crate) fn resend_said<'a>(client: ClientId, resent: Option<Seq>) -> Said<'a>
     ensures { result ≡ resend_said client resent }
 {
     match resent {
@@ -68,7 +78,7 @@ pub(crate) fn resend_said(client: ClientId, resent: Option<Seq>) -> Said
 }
 
 /// What is said of an operation that was to be given up.
-pub(crate) fn give_up_said(client: ClientId, given_up: Option<Seq>) -> Said
+pub(crate) fn give_up_said<'a>(client: ClientId, given_up: Option<Seq>) -> Said<'a>
     ensures { result ≡ give_up_said client given_up }
 {
     match given_up {
@@ -149,7 +159,7 @@ fn promoted(format: Format, what: &What<'_>) -> Note
 
 /// What is said of junk that was handed to a node: every node refuses bytes that no packet spells,
 /// and others aren't handed over.
-pub(crate) fn junk_said(to: Node, bytes: &[u8]) -> Said
+pub(crate) fn junk_said<'a>(to: Node, bytes: &[u8]) -> Said<'a>
     ensures { result ≡ junk_said to (packet_of bytes.now) }
 {
     if decode(bytes).is_some() {
@@ -175,7 +185,7 @@ pub(crate) fn junk_said(to: Node, bytes: &[u8]) -> Said
 }
 
 /// What is said of a command that was to be ordered.
-pub(crate) fn order_said(command: &Command, order: &Order) -> Said
+pub(crate) fn order_said<'a>(command: &Command, order: &Order) -> Said<'a>
     ensures { result ≡ order_said command.now order.now }
 {
     match order {
@@ -191,7 +201,7 @@ pub(crate) fn order_said(command: &Command, order: &Order) -> Said
 }
 
 /// What is said of a controller that sent again.
-pub(crate) fn retry_said(retry: &Retry) -> Said
+pub(crate) fn retry_said<'a>(retry: &Retry) -> Said<'a>
     ensures { result ≡ retry_said retry.now }
 {
     match retry {
@@ -201,7 +211,7 @@ pub(crate) fn retry_said(retry: &Retry) -> Said
 }
 
 /// What is said of a plan.
-pub(crate) fn plan_said(plan: &Plan) -> Said
+pub(crate) fn plan_said<'a>(plan: &Plan) -> Said<'a>
     ensures { result ≡ plan_said plan.now }
 {
     match plan {

@@ -1,8 +1,10 @@
-use Rattle.std.proofs.Common.{◌≡◌, take, vec_capacity}
+use Rattle.std.proofs.Common.{◌≡◌, ◌≤◌, ◌+◌, take, length}
+use Rattle.indexmap.specs.IndexMap.{spare}
 use Rattle.peg_directory.proofs.refill.Given as goal
 
-abbrev pub invariant-loop-entry : goal.invariant-loop-entry
-invariant-loop-entry l = record {
-  items : l.kept.items ≡ take l.entry-index l.entries;
-  room : vec_capacity l.kept ≡ vec_capacity l.fn.kept;
+abbrev pub invariant-loop-key : goal.invariant-loop-key
+invariant-loop-key l = record {
+  entries : l.kept.entries ≡ take l.key-index l.entries;
+  room :
+      length l.fn.kept.entries + spare l.fn.kept ≤ length l.kept.entries + spare l.kept;
 }

@@ -1,5 +1,4 @@
-use Rattle.std.proofs.Common.{◌≡◌, ◌∙◌, true, ap, sym, subst}
-use Rattle.peg_model.specs.Rules.{entry_of}
+use Rattle.std.proofs.Common.{◌≡◌, true, subst}
 use Rattle.peg_model.specs.Handover.{is_entry}
 use Rattle.peg_directory.specs.Table.{Table}
 use Rattle.peg_directory.proofs.Kept.{found_within, is_held, held_in_rack}
@@ -9,9 +8,8 @@ pub returns-clause-within : goal.returns-clause-within
 returns-clause-within c =
     let key = c.args.key.now in
     subst (λ (t : Table). is_entry t.rack (key, c.in_ok-entry.entry) ≡ true) c.self.view_is
-    (found_within c.self.inside.config key c.self.inside.entries.items c.in_ok-entry.entry
-    c.self.invariant.0.within
-    (ap (λ es. entry_of es key) (sym c.deref.ensures.value) ∙ c.in_ok-entry.ensures.found.found))
+    (found_within c.self.inside.config key c.self.inside.entries.entries c.in_ok-entry.entry
+    c.self.invariant.0.within c.in_ok-entry.ensures.found.found)
 
 pub returns-clause-held : goal.returns-clause-held
 returns-clause-held c =

@@ -1,10 +1,8 @@
-use Rattle.std.proofs.Common.{◌≡◌, ◌++◌, ◌∷◌, [], length, sym, ◌∙◌, ap, subst, arith, true}
-use Rattle.std.specs.List.{flat_map, list_all}
+use Rattle.std.proofs.Common.{◌≡◌, ◌++◌, ◌∷◌, [], length, sym, ◌∙◌, ap, arith}
+use Rattle.std.specs.List.{flat_map}
 use Rattle.peg_name.specs.Name.{Rack}
 use Rattle.peg_model.specs.Packet.{two, eight, is_number}
-use Rattle.peg_model.specs.Rules.{Directory}
 use Rattle.peg_model.specs.Handover.{stamp_bytes, entry_bytes}
-use Rattle.peg_grammar.specs.State.{is_rising}
 use Rattle.peg_parts.proofs.Sealing.{spelled}
 use Rattle.peg_parts.proofs.spell.spell.Goals as goal
 
@@ -32,7 +30,7 @@ bytes c =
     in
     let count = c.put.ensures.items ∙ (λ j. rows j ++ c.len.ensures.len j ∷ []) in
     c.put_entries.ensures.items
-    ∙ (λ j. count j ++ flat_map (entry_bytes (format j)) (c.entries.ensures.entries j))
+    ∙ (λ j. count j ++ flat_map (entry_bytes (format j)) c.args.directory.now.entries)
 
 pub returns-clause-spelled : goal.returns-clause-spelled
 returns-clause-spelled c =
@@ -45,8 +43,6 @@ returns-clause-spelled c =
       clients = c.requires.clients;
       rows = c.put_rows.ensures.numbers;
       whole = c.len.ensures.whole;
-      rising =
-          subst (λ (entries : Directory). list_all (λ item. is_rising item.1.holders) entries ≡ true)
-          c.entries.ensures.entries c.put_entries.ensures.rising;
+      rising = c.put_entries.ensures.rising;
       spelled = bytes c;
     })

@@ -10,7 +10,7 @@ answer-requires-clause-open c =
     let seen = ap (λ (k : Kept). k.operations) c.self.view_is in
     is_unanswered inside.history.ops inside.names.keys inside.tags.items c.in-Some.index
     c.args.client c.args.seq c.args.place c.self.invariant
-    (subst (IsOpen c.args.client c.args.seq c.args.place) (sym seen) c.requires)
+    (subst (IsOpen c.args.client c.args.seq c.args.place) (sym seen) c.requires.opens)
     (sym c.in-Some.ensures.index)
 
 -- src/operations.rt:118:13
@@ -20,7 +20,7 @@ answer-requires-clause-later c =
     let seen = ap (λ (k : Kept). k.operations) c.self.view_is in
     is_earlier inside.history.ops inside.names.keys inside.tags.items c.in-Some.index
     c.args.client c.args.seq c.args.place c.self.invariant
-    (subst (IsOpen c.args.client c.args.seq c.args.place) (sym seen) c.requires)
+    (subst (IsOpen c.args.client c.args.seq c.args.place) (sym seen) c.requires.opens)
     (sym c.in-Some.ensures.index)
 
 -- src/operations.rt:125:13
@@ -28,5 +28,5 @@ pub invariant_of-self : goal.invariant_of-self
 invariant_of-self c =
     let inside = c.self.inside in
     are_answered inside.history.ops c.answer.new.self.ops inside.names.keys inside.tags.items
-    c.in-Some.index c.args.client c.args.seq c.args.place c.origin_of.result c.args.content
+    c.in-Some.index c.args.client c.args.seq c.args.place c.origin_of.result c.args.content.now
     c.self.invariant (sym c.in-Some.ensures.index) c.answer.ensures.answered

@@ -5,7 +5,8 @@ use Rattle.peg_world.specs.Acting.{Acting, client_at}
 use Rattle.peg_world.specs.Machine.{midway_of}
 use Rattle.peg_world.specs.Midway.{Midway}
 use Rattle.peg_world.specs.Sound.{packet_in}
-use Rattle.peg_world.proofs.Issuing.{issue_fresh, issue_kept, issue_came}
+use Rattle.peg_history.specs.Contents.{size_of}
+use Rattle.peg_world.proofs.Issuing.{issue_fresh, issue_kept, issue_came, op_size}
 use Rattle.peg_world.proofs.Kept.{kept_begun}
 use Rattle.peg_world.proofs.Knowing.{op_client}
 use Rattle.peg_world.proofs.machine.Machine.issue.Goals as goal
@@ -28,6 +29,18 @@ take_issue-requires-clause-fresh c =
     c.issue-issue.ensures.answer
     (ap (λ (o : Op). o.client) c.new_op-op.ensures
     ∙ op_client c.args.id c.args.key.now c.args.ask.now c.args.place)
+
+pub take_issue-requires-clause-bytes : goal.take_issue-requires-clause-bytes
+take_issue-requires-clause-bytes c =
+    omega (
+      arith,
+      c.in_ok-reserve.ensures.bytes,
+      c.asked_size.ensures,
+      ap (λ (m : Midway). m.room) (c.self-2.view_is ∙ c.in_ok-close.ensures.closes.0),
+      ap (λ (m : Midway). m.room) c.self.view_is,
+      ap (λ (o : Op). size_of o.content) c.new_op-op.ensures,
+      op_size c.args.id c.args.key.now c.args.ask.now c.args.place,
+    )
 
 pub invariant_of-self-2 : goal.invariant_of-self-2
 invariant_of-self-2 c =
@@ -58,7 +71,7 @@ returns c =
     issue_came inside.nodes inside.place c.args.place (map packet_in inside.soup.items)
     inside.operations.operations inside.fences.fences inside.promotions.promotions c.args.id
     c.args.key.now c.args.ask.now c.args.self.now _ (midway_of c.self-2.inside)
-    c.issue-issue.new.self inside.soup.spare _ c.take_issue.new.self.operations c.new_op-op.result
+    c.issue-issue.new.self inside.soup.spare _ _ c.take_issue.new.self.operations c.new_op-op.result
     c.issue-issue.result c.issue_said.result
     (ap (λ (m : Midway). m.world) c.self.view_is ∙ c.reserve.ensures.world)
     c.issue-issue.ensures.after (c.self-2.view_is ∙ c.in_ok-close.ensures.closes.0) refl refl refl

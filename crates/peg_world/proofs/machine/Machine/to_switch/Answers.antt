@@ -35,7 +35,7 @@ returns-in_err-close c =
     (switch_stops inside.nodes c.switch-did.new.self inside.place c.args.place
     (map packet_in inside.soup.items) inside.operations.operations inside.fences.fences
     inside.promotions.promotions c.args.id (packet_read item.1) c.args.pick old c.close.new.self
-    inside.soup.spare _ c.in_err-close.field-0.0 seen c.switch-did.ensures.after
+    inside.soup.spare _ _ c.in_err-close.field-0.0 seen c.switch-did.ensures.after
     c.in_err-close.ensures.closes) in
     search (rules, fact)
 
@@ -71,7 +71,7 @@ returns c =
     (switch_came inside.nodes c.switch-did.new.self inside.place c.args.place
     (map packet_in inside.soup.items) inside.operations.operations inside.fences.fences
     inside.promotions.promotions c.args.id (packet_read item.1) c.args.pick old c.note.new.self
-    inside.soup.spare _ c.close.new.self c.note_of-note.result c.switch-did.result
+    inside.soup.spare _ _ c.close.new.self c.note_of-note.result c.switch-did.result
     (said.Switch c.args.id c.switch-did.result) seen c.switch-did.ensures.after
     c.switch-did.ensures.held
     (c.note_of-note.ensures

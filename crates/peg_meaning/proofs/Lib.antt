@@ -1,0 +1,5 @@
+pub mod Keeping
+pub mod PlayedIs
+pub mod PlayedOn
+pub mod Weaving
+pub mod LinesAlone

@@ -1,0 +1,12 @@
+pub mod Wire
+pub mod Session
+pub mod Played
+pub mod Roles
+pub mod RackWord
+pub mod Records
+pub mod Racks
+pub mod Balance
+pub mod CheckWord
+pub mod Workload
+pub mod Commands
+pub mod ReplayWord

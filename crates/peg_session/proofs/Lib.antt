@@ -1,0 +1,4 @@
+pub mod Passing
+pub mod Carrying
+pub mod Standings
+pub mod Alike

@@ -1,0 +1,17 @@
+pub mod Lists
+pub mod Reaching
+pub mod RackReached
+pub mod RacksReached
+pub mod AuditReached
+pub mod Isolation
+pub mod Divided
+pub mod Keys
+pub mod Homes
+pub mod Fairness
+pub mod Lightest
+pub mod Spreading
+pub mod TakesRecords
+pub mod TakesNoOthers
+pub mod AuditRead
+pub mod Told
+pub mod Checked

@@ -1,0 +1,10 @@
+pub mod Sessions
+pub mod CommandLines
+pub mod WordLines
+pub mod NodeWords
+pub mod BalancedRuns
+pub mod RackRuns
+pub mod RacksRuns
+pub mod RecordRuns
+pub mod SoakRuns
+pub mod Verdicts
