@@ -201,37 +201,33 @@ impl Client {
     {
         match packet {
             Packet::ReadReply {
-                client,
-                seq,
+                header,
                 version,
                 key,
                 content,
-                ..
             } => {
-                if !self.awaits_read(*client, *seq, key) {
+                if !self.awaits_read(header.client, header.seq, key) {
                     return ClientDid::Ignored;
                 }
                 let content = content_of(self.format, *content);
                 self.pending = None;
                 ClientDid::Read {
-                    seq: *seq,
+                    seq: header.seq,
                     version: *version,
                     content,
                 }
             }
             Packet::WriteReply {
-                client,
-                seq,
+                header,
                 version,
                 key,
-                ..
             } => {
-                if !self.awaits_write(*client, *seq, key) {
+                if !self.awaits_write(header.client, header.seq, key) {
                     return ClientDid::Ignored;
                 }
                 self.pending = None;
                 ClientDid::Wrote {
-                    seq: *seq,
+                    seq: header.seq,
                     version: *version,
                 }
             }

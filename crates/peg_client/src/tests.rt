@@ -1,9 +1,19 @@
 use crate::*;
 use peg_name::{ServerId, Value, Version};
-use peg_packet::{Packet, encode, is_in_range};
+use peg_packet::{Header, Packet, encode, is_in_range};
 use std::test::Fail;
 
 const READER: ClientId = ClientId(1);
+
+/// An operation of the reader, at the first server and through the first switch.
+fn header(seq: u64) -> Header {
+    Header {
+        client: READER,
+        seq: Seq(seq),
+        server: ServerId(0),
+        switch: SwitchId(0),
+    }
+}
 
 #[test]
 fn one_operation_is_pending_at_most(rt: HostRuntime) -> Result<(), Fail> {
@@ -38,11 +48,8 @@ fn the_first_reply_answers(rt: HostRuntime) -> Result<(), Fail> {
     assert!(rt; post.len() < post.slots() && post.format() == client.format());
     client.issue(&key, &reads[0], &mut post);
     let replies = [Packet::ReadReply {
-        client: READER,
-        seq: Seq(7),
+        header: header(7),
         version: Version(3),
-        server: ServerId(0),
-        switch: SwitchId(0),
         key: b"k",
         content: Some(b"x"),
     }];
@@ -78,11 +85,8 @@ fn writes_are_answered_and_clients_move(rt: HostRuntime) -> Result<(), Fail> {
     let (switch, version) = (SwitchId(1), Version(3));
     let packets = [
         Packet::WriteReply {
-            client: READER,
-            seq: Seq(1),
+            header: header(1),
             version,
-            server: ServerId(0),
-            switch: SwitchId(0),
             key: b"k",
         },
         Packet::Announce { epoch: 2, switch },

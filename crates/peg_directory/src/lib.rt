@@ -16,7 +16,6 @@ ghost use Rattle.peg_directory.specs.Table.{Table, IsDirectory, with_entries, Is
 use indexmap::IndexMap;
 use peg_name::{Config, Holders, Key, ServerId, Version};
 use std::alloc::Global;
-use std::hash::{Hash, Hasher};
 use std::marker::Model;
 use std::mem;
 
@@ -26,45 +25,15 @@ mod tests;
 pub use peg_event::{Listing, MarkDid, Promoted};
 pub use peg_name::{Note, OutOfMemory};
 
-/// A key as the directory finds it, hashed in one write of its bytes. The hash has no secret, so
-/// users can choose keys that collide; but at most 64 are listed, so the worst that they get is a
-/// search through as many.
-#[derive(Clone, Copy, PartialEq, Eq)]
-struct ListedKey(Key);
-
-impl Model for ListedKey {
-    ghost use Rattle.std.specs.Prelude.{List, ℕ};
-
-    ghost Value = { List ℕ };
-
-    ghost view = { λ k. k.0 };
-
-    ghost inverse = { λ key. record { 0 = key } };
-}
-
-impl Hash for ListedKey {
-    ghost use Rattle.std.specs.Prelude.{◌∷◌, []};
-    ghost use Rattle.std.specs.Cmp.Rules.{hashing};
-    ghost use Rattle.std.proofs.Common.{rules};
-
-    ghost hash_input = { λ key. key ∷ [] };
-
-    ghost respects_eq = { Prim.search (hashing, rules) };
-
-    fn hash<H: Hasher>(&self, state: &mut H) {
-        state.write(self.0.bytes());
-    }
-}
-
 /// The listed keys of a rack, in the order of listing. Its room is taken when it is made, so no
 /// later call takes memory.
 #[derive(Drop)]
 pub struct Directory {
     config: Config,
-    entries: IndexMap<ListedKey, Listing>,
+    entries: IndexMap<Key, Listing>,
     // Empty between calls: a removal moves what stays here, and the two change places. A map that
     // entries were removed from one by one would want memory before it is full.
-    emptied: IndexMap<ListedKey, Listing>,
+    emptied: IndexMap<Key, Listing>,
 }
 
 impl Model for Directory {
@@ -126,8 +95,7 @@ impl Directory {
         requires { place < length self.now.entries }
         ensures { Some result ≡ slice_get self.now.entries place }
     {
-        let (key, entry) = entry_at(&self.entries, place);
-        (key.0, entry)
+        entry_at(&self.entries, place)
     }
 }
 
@@ -173,7 +141,7 @@ impl Directory {
             return Promoted::Full { count };
         }
         let entry = new_listing(listing, home, base);
-        self.entries.insert(ListedKey(*key), entry).unwrap();
+        self.entries.insert(*key, entry).unwrap();
         Promoted::Listed
     }
 
@@ -251,15 +219,15 @@ impl Directory {
 }
 
 // The key's entry, with its place.
-fn look_up(entries: &IndexMap<ListedKey, Listing>, key: &Key) -> Option<(usize, Listing)>
+fn look_up(entries: &IndexMap<Key, Listing>, key: &Key) -> Option<(usize, Listing)>
     ensures found { IfSome result (λ r. IsAt key.now entries.now.entries r.0 r.1) }
     ensures absent { IfNone result (entry_of entries.now.entries key.now ≡ None) }
 {
-    let (place, _, entry) = entries.get_full(&ListedKey(*key))?;
+    let (place, _, entry) = entries.get_full(key)?;
     Some((place, *entry))
 }
 
-fn entry_at<V: Copy>(entries: &IndexMap<ListedKey, V>, place: usize) -> (ListedKey, V)
+fn entry_at<V: Copy>(entries: &IndexMap<Key, V>, place: usize) -> (Key, V)
     requires { place < length entries.now.entries }
     ensures { Some result ≡ slice_get entries.now.entries place }
 {
@@ -268,11 +236,7 @@ fn entry_at<V: Copy>(entries: &IndexMap<ListedKey, V>, place: usize) -> (ListedK
 }
 
 // Moves all entries but the key's to an empty map, in their order.
-fn move_others<V: Copy>(
-    from: &mut IndexMap<ListedKey, V>,
-    to: &mut IndexMap<ListedKey, V>,
-    key: &Key,
-)
+fn move_others<V: Copy>(from: &mut IndexMap<Key, V>, to: &mut IndexMap<Key, V>, key: &Key)
     requires empty { to.old.entries ≡ [] }
     requires room { length from.old.entries ≤ spare to.old }
     ensures moved { to.new.entries ≡ remove_entry (bytes_eq key.now) from.old.entries }
@@ -282,7 +246,7 @@ fn move_others<V: Copy>(
 {
     for i in 0..from.len() {
         let (other, entry) = entry_at(from, i);
-        if *key != other.0 {
+        if *key != other {
             to.insert(other, entry).unwrap();
         }
     }
@@ -290,7 +254,7 @@ fn move_others<V: Copy>(
 }
 
 // Keeps these entries in place of the old ones, in the room that there is.
-fn refill(kept: &mut IndexMap<ListedKey, Listing>, entries: &[(Key, Listing)])
+fn refill(kept: &mut IndexMap<Key, Listing>, entries: &[(Key, Listing)])
     requires room { length entries.now ≤ length kept.old.entries + spare kept.old }
     requires distinct { are_distinct (keys_of entries.now) ≡ true }
     ensures entries { kept.new.entries ≡ entries.now }
@@ -299,7 +263,7 @@ fn refill(kept: &mut IndexMap<ListedKey, Listing>, entries: &[(Key, Listing)])
 {
     kept.clear();
     for (key, entry) in entries {
-        kept.insert(ListedKey(*key), *entry).unwrap();
+        kept.insert(*key, *entry).unwrap();
     }
 }
 

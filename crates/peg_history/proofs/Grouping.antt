@@ -14,7 +14,7 @@ use Rattle.peg_model.specs.Order.{Tagged, tagged, first_keys, keys_in}
 use Rattle.peg_history.specs.declared.Entry.{Entry}
 use Rattle.peg_history.specs.Entries.{entry_if, entries_of, added, grouped}
 
-turned : (a b : List ℕ) → bytes_eq a b ≡ bytes_eq b a
+pub turned : (a b : List ℕ) → bytes_eq a b ≡ bytes_eq b a
 turned a b = nat_list_eq_equiv.symm a b
 
 pub same : (a b : List ℕ) → bytes_eq a b ≡ true → a ≡ b

@@ -1,19 +1,17 @@
--- The map from keys to the places of their groups.
-use Rattle.std.proofs.Common.{◌≡◌, ◌<◌, ℕ, zero, suc, Bool, true, false, cond, if◌then◌else◌}
+-- The keys of the groups, in the places of these.
+use Rattle.std.proofs.Common.{◌≡◌, ◌<◌, ℕ, zero, suc, Bool, true, false, not, ◌+◌, cond, ◌||◌, nat_lt, if◌then◌else◌}
 use Rattle.std.proofs.Common.{Option, Some, None, option_map, List, [], ◌∷◌, ◌++◌, length, get_or}
-use Rattle.std.proofs.Common.{set, map, refl, sym, ap, ◌∙◌, subst, arith}
+use Rattle.std.proofs.Common.{set, map, refl, sym, ap, ◌∙◌, arith}
 use Rattle.std.proofs.lemmas.List.{map_push}
 use Rattle.std.specs.Option.{option_to_list}
-use Rattle.std.specs.Ordering.{nat_cmp}
-use Rattle.std.specs.Cmp.Lexicographic.{slice_cmp}
 use Rattle.std.specs.Str.{bytes_eq}
-use Rattle.std.specs.BTreeMap.{BTreeMap, get, is_at}
-use Rattle.std.proofs.lemmas.Map.Text.{is_eq-slice_cmp}
+use Rattle.std.specs.List.{list_any, position, position_or_len}
+use Rattle.std.proofs.lemmas.Bool.Decides.{nat_tests}
 use Rattle.peg_history.specs.declared.Entry.{Entry}
 use Rattle.peg_history.specs.declared.group.Group.{Group}
 use Rattle.peg_history.specs.Entries.{added}
 use Rattle.peg_history.specs.Groups.{group_of, index_in, IsIndex, extended}
-use Rattle.peg_history.proofs.Grouping.{same}
+use Rattle.peg_history.proofs.Grouping.{turned}
 
 pub index_within :
     (key : List ℕ) (gs : List (List ℕ × List Entry)) (i : ℕ) → index_in key gs ≡ Some i
@@ -67,63 +65,82 @@ added-none key (g ∷ gs) e h =
     none_if false None k rest h' = ap (λ xs. g ∷ xs) (rest k)
     none_if false (Some j) k rest h' = cc
 
-pub index_in-extended :
-    (key : List ℕ) (gs : List (List ℕ × List Entry)) (i : ℕ) (e : Option Entry)
-    → index_in key (extended gs i e) ≡ index_in key gs
-index_in-extended key [] i e = refl
-index_in-extended key (g ∷ gs) zero e = refl
-index_in-extended key (g ∷ gs) (suc i) e =
-    ap (λ o. if bytes_eq g.0 key then Some 0 else option_map suc o) (index_in-extended key gs i e)
+-- ---- the keys of the groups
 
-index_in-push :
-    (q key : List ℕ) (es : List Entry) (gs : List (List ℕ × List Entry)) → bytes_eq key q ≡ true
-    → index_in q gs ≡ None
-    → index_in q (gs ++ (key, es) ∷ []) ≡ Some (length gs)
-index_in-push q key es [] h none = ap (λ b. if b then Some 0 else None) h
-index_in-push q key es (g ∷ gs) h none =
-    push_if (bytes_eq g.0 q) (index_in q gs) refl (λ k. index_in-push q key es gs h k) none
+lifted : (n : ℕ) (b : Bool) → cond b (Some (suc n)) None ≡ option_map suc (cond b (Some n) None)
+lifted n true = refl
+lifted n false = refl
+
+position-cons :
+    (p : List ℕ → Bool) (x : List ℕ) (xs : List (List ℕ))
+    → position p (x ∷ xs) ≡ (if p x then Some 0 else option_map suc (position p xs))
+position-cons p x xs = by (position_or_len p xs) (p x)
   where
-    push_if :
-        (b : Bool) (o : Option ℕ) → index_in q gs ≡ o
-        → (index_in q gs ≡ None → index_in q (gs ++ (key, es) ∷ []) ≡ Some (length gs))
-        → (if b then Some 0 else option_map suc o) ≡ None
-        → (if b then Some 0 else option_map suc (index_in q (gs ++ (key, es) ∷ [])))
-        ≡ Some (suc (length gs))
-    push_if true o k rest h' = cc
-    push_if false None k rest h' = ap (option_map suc) (rest k)
-    push_if false (Some j) k rest h' = cc
+    by : (n : ℕ) (b : Bool)
+        → cond (nat_lt (cond (not b) (1 + n) 0) (suc (length xs)))
+        (Some (cond (not b) (1 + n) 0)) None
+        ≡ (if b then Some 0 else option_map suc (cond (nat_lt n (length xs)) (Some n) None))
+    by n true =
+        let some : nat_lt 0 (suc (length xs)) ≡ true = grind (arith, nat_tests) in
+        ap (λ t. cond t (Some 0) None) some
+    by n false =
+        let same : nat_lt (suc n) (suc (length xs)) ≡ nat_lt n (length xs) =
+        grind (arith, nat_tests) in
+        let next : 1 + n ≡ suc n = omega arith in
+        ap (λ k. cond (nat_lt k (suc (length xs))) (Some k) None) next
+        ∙ ap (λ t. cond t (Some (suc n)) None) same
+        ∙ lifted n (nat_lt n (length xs))
 
-index_in-push_other :
-    (q key : List ℕ) (es : List Entry) (gs : List (List ℕ × List Entry)) → bytes_eq key q ≡ false
-    → index_in q (gs ++ (key, es) ∷ []) ≡ index_in q gs
-index_in-push_other q key es [] h = ap (λ b. if b then Some 0 else None) h
-index_in-push_other q key es (g ∷ gs) h =
-    ap (λ o. if bytes_eq g.0 q then Some 0 else option_map suc o)
-    (index_in-push_other q key es gs h)
+pub keys_found :
+    (key : List ℕ) (gs : List (List ℕ × List Entry))
+    → position (bytes_eq key) (map (λ g. g.0) gs) ≡ index_in key gs
+keys_found key [] = refl
+keys_found key (g ∷ gs) =
+    position-cons (bytes_eq key) g.0 (map (λ g. g.0) gs)
+    ∙ ap (λ t. if t then Some 0 else option_map suc (position (bytes_eq key) (map (λ g. g.0) gs)))
+    (turned key g.0)
+    ∙ ap (λ o. if bytes_eq g.0 key then Some 0 else option_map suc o) (keys_found key gs)
+
+pub keys_extended :
+    (gs : List (List ℕ × List Entry)) (i : ℕ) (e : Option Entry)
+    → map (λ g. g.0) (extended gs i e) ≡ map (λ g. g.0) gs
+keys_extended [] i e = refl
+keys_extended (g ∷ gs) zero e = refl
+keys_extended (g ∷ gs) (suc i) e = ap (λ ks. g.0 ∷ ks) (keys_extended gs i e)
+
+keys_pushed :
+    (gs : List (List ℕ × List Entry)) (key : List ℕ) (es : List Entry)
+    → map (λ g. g.0) (gs ++ (key, es) ∷ []) ≡ map (λ g. g.0) gs ++ key ∷ []
+keys_pushed [] key es = refl
+keys_pushed (g ∷ gs) key es = ap (λ ks. g.0 ∷ ks) (keys_pushed gs key es)
+
+not_among :
+    (key : List ℕ) (gs : List (List ℕ × List Entry)) → index_in key gs ≡ None
+    → list_any (bytes_eq key) (map (λ g. g.0) gs) ≡ false
+not_among key [] none = refl
+not_among key (g ∷ gs) none =
+    ap (λ b. b || list_any (bytes_eq key) (map (λ g. g.0) gs)) (turned key g.0)
+    ∙ by (bytes_eq g.0 key) (index_in key gs) (not_among key gs) refl none
+  where
+    by : (b : Bool) (o : Option ℕ)
+        → (index_in key gs ≡ None → list_any (bytes_eq key) (map (λ g. g.0) gs) ≡ false)
+        → index_in key gs ≡ o → (if b then Some 0 else option_map suc o) ≡ None
+        → (b || list_any (bytes_eq key) (map (λ g. g.0) gs)) ≡ false
+    by true o rest is h = cc
+    by false None rest is h = rest is
+    by false (Some i) rest is h = cc
 
 -- a key that had no group gets the next place
 pub IsIndex-push :
-    (old new : BTreeMap (List ℕ) ℕ) (key : List ℕ) (n : ℕ) (es : List Entry)
-    (gs : List (List ℕ × List Entry))
-    → IsIndex old gs → index_in key gs ≡ None → n ≡ length gs
-    →
-    ((q : List ℕ)
-    → get (slice_cmp nat_cmp) new q
-    ≡ cond (is_at (slice_cmp nat_cmp key) q) (Some n) (get (slice_cmp nat_cmp) old q))
+    (old new : List (List ℕ)) (key : List ℕ) (es : List Entry) (gs : List (List ℕ × List Entry))
+    → IsIndex old gs → index_in key gs ≡ None
+    → new ≡ (if list_any (bytes_eq key) old then old else old ++ key ∷ [])
     → IsIndex new (gs ++ (key, es) ∷ [])
-IsIndex-push old new key n es gs index none is updates = λ q. push_at q (bytes_eq key q) refl
-  where
-    push_at :
-        (q : List ℕ) (b : Bool) → bytes_eq key q ≡ b
-        → get (slice_cmp nat_cmp) new q ≡ index_in q (gs ++ (key, es) ∷ [])
-    push_at q true h =
-        updates q ∙ ap (λ b. cond b (Some n) (get (slice_cmp nat_cmp) old q))
-        (is_eq-slice_cmp key q ∙ h) ∙ ap Some is
-        ∙ sym (index_in-push q key es gs h (subst (λ k. index_in k gs ≡ None) (same key q h) none))
-    push_at q false h =
-        updates q ∙ ap (λ b. cond b (Some n) (get (slice_cmp nat_cmp) old q))
-        (is_eq-slice_cmp key q ∙ h) ∙ index q
-        ∙ sym (index_in-push_other q key es gs h)
+IsIndex-push old new key es gs index none is =
+    is
+    ∙ ap (λ t. if t then old else old ++ key ∷ [])
+    (ap (list_any (bytes_eq key)) index ∙ not_among key gs none)
+    ∙ ap (λ ks. ks ++ key ∷ []) index ∙ sym (keys_pushed gs key es)
 
 -- the group at a place, with a further entry
 pub map-extended :

@@ -6,3 +6,7 @@ pub mod Grouping
 pub mod Indexed
 pub mod Passes
 pub mod Shelved
+pub mod Walked
+pub mod Listed
+pub mod Judged
+pub mod Law

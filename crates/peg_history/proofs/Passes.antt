@@ -1,9 +1,8 @@
 -- One pass over the history makes the groups, and the orders of the groups are those of the keys.
 use Rattle.std.proofs.Common.{◌≡◌, ◌<◌, ◌≤◌, ◌+◌, ◌^◌, ℕ, Option, IfSome, List, [], ◌∷◌, ◌++◌}
-use Rattle.std.proofs.Common.{length, map, refl, sym, ap, ◌∙◌, subst, rules, append_assoc}
+use Rattle.std.proofs.Common.{length, map, refl, sym, ap, ◌∙◌, subst, append_assoc}
 use Rattle.std.proofs.lemmas.List.{append-nil, nil_from_length}
 use Rattle.std.specs.List.{AllByRecursion}
-use Rattle.std.specs.BTreeMap.{BTreeMap}
 use Rattle.peg_event.specs.declared.Op.{Op}
 use Rattle.peg_model.specs.Order.{tagged, order_of, keys_in}
 use Rattle.peg_history.specs.declared.Entry.{Entry}
@@ -14,7 +13,7 @@ use Rattle.peg_history.specs.Groups.{group_of, IsIndex, key_orders, order_in_boo
 use Rattle.peg_history.proofs.Grouping.{listed, grouped-all}
 use Rattle.peg_history.proofs.Orders.{rest_of, rest_none, printed_is}
 
-pub record IsPassed (ops : List Op) (tags : List ℕ) (place : ℕ) (known : BTreeMap (List ℕ) ℕ)
+pub record IsPassed (ops : List Op) (tags : List ℕ) (place : ℕ) (known : List (List ℕ))
     (gs : List (List ℕ × List Entry)) : Type 0 where
   pub index : IsIndex known gs
   pub split : grouped [] (tagged 0 ops tags) ≡ grouped gs (rest_of ops tags place)
@@ -22,22 +21,20 @@ pub record IsPassed (ops : List Op) (tags : List ℕ) (place : ℕ) (known : BTr
       AllByRecursion InRange (rest_of ops tags place) → AllByRecursion InRange (tagged 0 ops tags)
 
 pub none_passed :
-    (ops : List Op) (tags : List ℕ) (known : BTreeMap (List ℕ) ℕ) (gs : List (List ℕ × List Entry))
-    → gs ≡ [] → known.entries ≡ []
+    (ops : List Op) (tags : List ℕ) (known : List (List ℕ)) (gs : List (List ℕ × List Entry))
+    → gs ≡ [] → known ≡ []
     → IsPassed ops tags 0 known gs
 unfolding rest_of
 none_passed ops tags known gs none empty =
     record {
-      index =
-          subst (λ (xs : List (List ℕ × List Entry)). IsIndex known xs) (sym none)
-          (λ q. search rules);
+      index = empty ∙ ap (λ (xs : List (List ℕ × List Entry)). map (λ g. g.0) xs) (sym none);
       split = ap (λ (xs : List (List ℕ × List Entry)). grouped xs (tagged 0 ops tags)) (sym none);
       range = λ h. h;
     }
 
 pub more_passed :
     (ops : List Op) (tags : List ℕ) (place : ℕ) (op : Op) (tag : ℕ) (e : Option Entry)
-    (old known : BTreeMap (List ℕ) ℕ) (gs new : List (List ℕ × List Entry))
+    (old known : List (List ℕ)) (gs new : List (List ℕ × List Entry))
     → rest_of ops tags place ≡ record {
       place = place;
       op = op;
@@ -57,7 +54,7 @@ more_passed ops tags place op tag e old known gs new rest range is now index don
     }
 
 pub all_groups :
-    (ops : List Op) (tags : List ℕ) (place : ℕ) (known : BTreeMap (List ℕ) ℕ)
+    (ops : List Op) (tags : List ℕ) (place : ℕ) (known : List (List ℕ))
     (gs : List (List ℕ × List Entry))
     → length ops ≤ place
     → IsPassed ops tags place known gs → gs ≡ grouped [] (tagged 0 ops tags)
@@ -65,7 +62,7 @@ all_groups ops tags place known gs past done =
     sym (done.split ∙ ap (λ ts. grouped gs ts) (rest_none ops tags place past))
 
 pub all_range :
-    (ops : List Op) (tags : List ℕ) (place : ℕ) (known : BTreeMap (List ℕ) ℕ)
+    (ops : List Op) (tags : List ℕ) (place : ℕ) (known : List (List ℕ))
     (gs : List (List ℕ × List Entry))
     → length ops ≤ place
     → IsPassed ops tags place known gs → AllByRecursion InRange (tagged 0 ops tags)

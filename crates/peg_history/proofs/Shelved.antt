@@ -1,7 +1,7 @@
 -- Operations whose contents lie one behind the other, where one more content is put behind them.
 use Rattle.std.proofs.Common.{◌≡◌, ℕ, zero, suc, ◌+◌, ◌<◌, ◌≤◌, List, [], ◌∷◌, ◌++◌, length, map}
-use Rattle.std.proofs.Common.{Some, take, drop, get_or, set, ap, sym, ◌∙◌, refl, arith, Bool, true}
-use Rattle.std.proofs.Common.{false, if◌then◌else◌, subst}
+use Rattle.std.proofs.Common.{Some, take, drop, get_or, set, ap, sym, ◌∙◌, refl, arith}
+use Rattle.std.proofs.Common.{if◌then◌else◌, subst}
 use Rattle.std.specs.List.{AllByRecursion, slice_get, slice_set}
 use Rattle.std.proofs.lemmas.List.{take-append-le, drop-append-le, length-drop, length-map}
 use Rattle.std.proofs.lemmas.List.{length-append, append-nil}

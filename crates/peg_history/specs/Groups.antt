@@ -1,14 +1,11 @@
 -- The groups of a history's entries, by key.
 --     group_of g      a group as a key and its entries
 --     index_in key groups      the first place of the key
---     IsIndex known groups      the map has the place of each group's key, and no other key
+--     IsIndex known groups      the keys are those of the groups, in their order
 --     key_orders ops tags      the orders of all keys
 use Rattle.std.specs.Prelude.{◌≡◌, ℕ, zero, suc, option_to_list, Option, Some, None, option_map}
 use Rattle.std.specs.Prelude.{List, [], ◌∷◌, ◌++◌, map, if◌then◌else◌}
-use Rattle.std.specs.Ordering.{nat_cmp}
-use Rattle.std.specs.Cmp.Lexicographic.{slice_cmp}
 use Rattle.std.specs.Str.{bytes_eq}
-use Rattle.std.specs.BTreeMap.{BTreeMap, get}
 use Rattle.peg_event.specs.declared.Op.{Op}
 use Rattle.peg_model.specs.Order.{order_of, keys_in}
 use Rattle.peg_history.specs.declared.Entry.{Entry}
@@ -23,8 +20,8 @@ index_in key [] = None
 index_in key (g ∷ groups) =
     if bytes_eq g.0 key then Some 0 else option_map suc (index_in key groups)
 
-abbrev pub IsIndex : BTreeMap (List ℕ) ℕ → List (List ℕ × List Entry) → Type 0
-IsIndex known groups = (key : List ℕ) → get (slice_cmp nat_cmp) known key ≡ index_in key groups
+abbrev pub IsIndex : List (List ℕ) → List (List ℕ × List Entry) → Type 0
+IsIndex known groups = known ≡ map (λ g. g.0) groups
 
 -- the entry goes to the group at a place
 abbrev pub extended : List (List ℕ × List Entry) → ℕ → Option Entry → List (List ℕ × List Entry)

@@ -3,3 +3,4 @@ pub mod Ledger
 pub mod Groups
 pub mod Contents
 pub mod Rows
+pub mod Walking

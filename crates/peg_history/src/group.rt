@@ -1,18 +1,16 @@
 // The orders of all keys.
-ghost use Rattle.std.specs.Prelude.{◌≡◌, ◌<◌, [], map, length, IfOk, OnOk};
-ghost use Rattle.std.specs.Ordering.{nat_cmp};
-ghost use Rattle.std.specs.Cmp.Lexicographic.{slice_cmp};
+ghost use Rattle.std.specs.Prelude.{◌≡◌, ◌<◌, [], map, length, position, IfOk, OnOk};
 ghost use Rattle.std.specs.List.{AllByRecursion};
-ghost use Rattle.std.specs.BTreeMap.{get};
+ghost use Rattle.std.specs.Str.{bytes_eq};
 ghost use Rattle.peg_model.specs.Order.{tagged};
 ghost use Rattle.peg_history.specs.Entries.{InRange, added, grouped};
 ghost use Rattle.peg_history.specs.Groups.{group_of, IsIndex, extended, key_orders};
 
 use crate::order::{entry_if, keep, order_in};
 use crate::{Entry, History, KeyOrder};
+use indexmap::IndexSet;
 use peg_name::{Key, OutOfMemory, Version};
 use std::alloc::Global;
-use std::collections::BTreeMap;
 
 // The entries of a key.
 #[derive(Drop)]
@@ -44,7 +42,7 @@ fn groups_of(alloc: Global, history: &History, tags: &[Version]) -> Result<Vec<G
         (λ groups. map group_of groups.items ≡ grouped [] (tagged 0 history.now.ops tags.now)) }
     ensures range { OnOk result (AllByRecursion InRange (tagged 0 history.now.ops tags.now)) }
 {
-    let mut known = BTreeMap::new(alloc);
+    let mut known = IndexSet::new(alloc);
     let mut groups = Vec::new(alloc);
     for place in 0..history.len() {
         let op = history.op(place);
@@ -57,31 +55,31 @@ fn groups_of(alloc: Global, history: &History, tags: &[Version]) -> Result<Vec<G
 // Adds an entry to the group of its key, which is a new one where the key has none.
 fn add(
     alloc: Global,
-    known: &mut BTreeMap<Key, usize>,
+    known: &mut IndexSet<Key>,
     groups: &mut Vec<Group>,
     key: &Key,
     entry: Option<Entry>,
 ) -> Result<(), OutOfMemory>
-    requires { IsIndex known.old (map group_of groups.old.items) }
+    requires { IsIndex known.old.keys (map group_of groups.old.items) }
     ensures groups { OnOk result
         (map group_of groups.new.items ≡ added (map group_of groups.old.items) key.now entry) }
-    ensures index { OnOk result (IsIndex known.new (map group_of groups.new.items)) }
+    ensures index { OnOk result (IsIndex known.new.keys (map group_of groups.new.items)) }
 {
     if let Some(index) = place_of(known, key) {
         extend(groups, index, entry)?;
         return Ok(());
     }
-    known.insert(*key, groups.len())?;
+    known.insert(*key)?;
     let mut entries = Vec::new(alloc);
     keep(&mut entries, entry)?;
     groups.push(Group { key: *key, entries })?;
     Ok(())
 }
 
-fn place_of(known: &BTreeMap<Key, usize>, key: &Key) -> Option<usize>
-    ensures { result ≡ get (slice_cmp nat_cmp) known.now key.now }
+fn place_of(known: &IndexSet<Key>, key: &Key) -> Option<usize>
+    ensures { result ≡ position (bytes_eq key.now) known.now.keys }
 {
-    known.get(key).copied()
+    known.get_index_of(key)
 }
 
 fn extend(groups: &mut Vec<Group>, index: usize, entry: Option<Entry>) -> Result<(), OutOfMemory>

@@ -1,4 +1,4 @@
-//! Histories of operations, and the order in which those of a key are printed.
+//! Histories of operations, the order in which those of a key are printed, and the check of orders.
 #![tactic(auto)]
 
 ghost use Rattle.std.specs.Prelude.{◌≡◌, ℕ, ◌+◌, ◌<◌, ◌≤◌, ◌==◌, List, [], ◌∷◌, ◌++◌, length, map};
@@ -16,12 +16,14 @@ use peg_name::{ClientId, Content, Key, Version};
 use std::alloc::Global;
 use std::marker::Model;
 
+mod checking;
 mod contents;
 mod group;
 mod order;
 #[cfg(test)]
 mod tests;
 
+pub use checking::check;
 pub use group::orders_of;
 pub use order::order_of;
 pub use peg_name::OutOfMemory;
@@ -252,6 +254,13 @@ impl Ops {
         ensures { Some result ≡ slice_get self.now i }
     {
         self.places[i as usize]
+    }
+
+    // The places.
+    fn places(&self) -> &[u32]
+        ensures { result.now ≡ self.now }
+    {
+        &self.places
     }
 }
 

@@ -1,6 +1,7 @@
 use crate::*;
-use peg_event::{Act, Op};
+use peg_event::{Act, Fault, Op, Verdict};
 use peg_name::{ClientId, Content, Key, Value, Version};
+use std::alloc::Global;
 use std::test::Fail;
 
 fn op_of<'a>(
@@ -75,6 +76,57 @@ fn an_answer_gives_a_read_its_content(rt: HostRuntime) -> Result<(), Fail> {
         history.answer(place, 3, &given);
         assert_eq!(rt; history.op(place).answered, Some(3));
         assert_eq!(rt; history.op(place).content == given, act == Act::Read);
+    }
+    Ok(())
+}
+
+fn order_with(alloc: Global, key: &[u8], places: &[u32]) -> Result<KeyOrder, Fail> {
+    let mut ops = Ops::make(alloc);
+    for place in places {
+        if ops.len() < 100 {
+            ops.push(*place)?;
+        }
+    }
+    Ok(KeyOrder {
+        key: Key::read(key)?,
+        ops,
+    })
+}
+
+#[test]
+fn the_first_fault_is_said(rt: HostRuntime) -> Result<(), Fail> {
+    let mut history = History::make(rt.alloc());
+    let ops = [
+        op_of(b"k", Act::Write, b"a", 2, Some(6))?,
+        op_of(b"k", Act::Read, b"a", 3, Some(5))?,
+        op_of(b"j", Act::Write, b"c", 4, Some(8))?,
+        op_of(b"k", Act::Write, b"b", 7, None)?,
+        op_of(b"k", Act::Read, b"b", 9, Some(10))?,
+        op_of(b"k", Act::Read, b"", 11, None)?,
+    ];
+    for op in &ops {
+        assert!(rt; history.len() < 6);
+        history.push(op)?;
+    }
+    let wants = [
+        ([0, 1, 3, 4].as_slice(), Verdict::Yes),
+        ([0, 1, 9, 4].as_slice(), Verdict::No(Fault::Strange(9))),
+        ([0, 2, 3, 4].as_slice(), Verdict::No(Fault::Strange(2))),
+        ([0, 5, 3, 4].as_slice(), Verdict::No(Fault::Strange(5))),
+        ([0, 1, 0, 4].as_slice(), Verdict::No(Fault::Twice(0))),
+        ([1, 0, 3, 4].as_slice(), Verdict::No(Fault::Illegal(1))),
+        ([0, 1, 4].as_slice(), Verdict::No(Fault::Illegal(4))),
+        (
+            [3, 4, 0, 1].as_slice(),
+            Verdict::No(Fault::Late { first: 3, place: 0 }),
+        ),
+        ([0].as_slice(), Verdict::No(Fault::Missing(1))),
+    ];
+    for (places, want) in wants {
+        let mut orders = Vec::new(rt.alloc());
+        orders.push(order_with(rt.alloc(), b"k", places)?)?;
+        orders.push(order_with(rt.alloc(), b"j", &[2])?)?;
+        assert_eq!(rt; check(rt.alloc(), &history, &orders)?, want);
     }
     Ok(())
 }

@@ -87,6 +87,18 @@ take-line_of (b ∷ xs) =
     feed_cases (b == 10) b xs (λ line past. take (length line) (b ∷ xs) ≡ line) refl
     (ap (λ ys. b ∷ ys) (take-line_of xs))
 
+-- so many bytes fewer stand before the line feed
+pub line_of-drop :
+    (xs : List ℕ) (n : ℕ) → n ≤ length (line_of xs)
+    → length (line_of xs) - n ≡ length (line_of (drop n xs))
+line_of-drop xs zero within = omega arith
+line_of-drop [] (suc n) within = absurd (omega (arith, within))
+line_of-drop (b ∷ xs) (suc n) within =
+    feed_cases (b == 10) b xs
+    (λ line past. suc n ≤ length line → length line - suc n ≡ length (line_of (drop n xs)))
+    (λ none. absurd (omega (arith, none)))
+    (λ some. omega (arith, line_of-drop xs n (omega (arith, some)), some)) within
+
 pub drop-line_of : (xs : List ℕ) → drop (suc (length (line_of xs))) xs ≡ past_line xs
 drop-line_of [] = refl
 drop-line_of (b ∷ xs) =

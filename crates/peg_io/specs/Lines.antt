@@ -6,7 +6,7 @@
 --     Gives answer limit before line after, Keeps answer limit now      what an answer says of the
 --         input before it, the line and the input after it
 use Rattle.std.specs.Prelude.{◌≡◌, ◌≢◌, ◌<◌, ◌≤◌, ◌+◌, ◌==◌, ℕ, Bool, nat_lt, Option, Some, None}
-use Rattle.std.specs.Prelude.{List, [], ◌∷◌, ◌++◌, length, if◌then◌else◌}
+use Rattle.std.specs.Prelude.{List, [], ◌∷◌, ◌++◌, length, slice_range, if◌then◌else◌}
 use Rattle.std.specs.List.{AllByRecursion}
 use Rattle.peg_io.specs.Outside.{Tells, Takes, AreNone, Stays}
 use Rattle.peg_io.specs.declared.Got.{Got}
@@ -29,13 +29,14 @@ past_line (b ∷ input) = if b == 10 then input else past_line input
 abbrev pub has_feed : List ℕ → Bool
 has_feed held = nat_lt (length (line_of held)) (length held)
 
--- how a reader lies in memory
-pub record InPlace (buf : List ℕ) (start end : ℕ) (line : List ℕ) (len : ℕ) : Type 0 where
+-- how a reader lies in memory; so many bytes stand before the first line feed
+pub record InPlace (buf : List ℕ) (start end : ℕ) (line : List ℕ) (len feed : ℕ) : Type 0 where
   pub ordered : start ≤ end
   pub in_buffer : end ≤ 4096
   pub in_line : len ≤ 4096
   pub buffer : length buf ≡ 4096
   pub place : length line ≡ 4096
+  pub ahead : feed ≡ length (line_of (slice_range buf start end))
 
 -- bytes of one line
 abbrev pub HasNoFeed : List ℕ → Type 0

@@ -6,7 +6,7 @@
 --     Binds, HasTurn, Attempts      what each call of a wire adds to that
 use Rattle.std.specs.Prelude.{◌≡◌, ◌≤◌, ◌+◌, ◌-◌, ◌^◌, ℕ, min, Option, Some, None, List, [], ◌∷◌}
 use Rattle.std.specs.Prelude.{◌++◌, length, take}
-use Rattle.peg_meaning.specs.Wire.{Turn, Datagram, Pause, Sent, Carried, with_turn}
+use Rattle.peg_meaning.specs.Wire.{Turn, Datagram, Pause, Carried, with_turn}
 use Rattle.peg_io.specs.declared.Got.{Got}
 use Rattle.peg_io.specs.declared.Got.TheVariants as got
 use Rattle.peg_io.specs.declared.Took.{Took}

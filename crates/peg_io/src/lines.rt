@@ -32,6 +32,8 @@ pub struct Lines {
     end: usize,
     line: [u8; 4096],
     len: usize,
+    // How many bytes stand before the first line feed of those that are read ahead.
+    feed: usize,
 }
 
 impl Model for Lines {
@@ -43,7 +45,7 @@ impl Model for Lines {
     ghost view = { λ l.
         record { held = slice_range l.buf l.start l.end; line = take l.len l.line } };
 
-    ghost invariant = { λ l. InPlace l.buf l.start l.end l.line l.len };
+    ghost invariant = { λ l. InPlace l.buf l.start l.end l.line l.len l.feed };
 }
 
 impl Lines {
@@ -57,6 +59,7 @@ impl Lines {
             end: 0,
             line: [0; 4096],
             len: 0,
+            feed: 0,
         }
     }
 
@@ -137,6 +140,7 @@ impl Lines {
         if let Got::Bytes(count) = got {
             self.start = 0;
             self.end = count;
+            self.feed = count_to_feed(&self.buf[..count]);
         }
         got
     }
@@ -180,8 +184,7 @@ impl Lines {
         ensures place { result ≡ length (line_of self.now.held) }
         ensures within { length self.now.held ≤ 4096 }
     {
-        let held = &self.buf[self.start..self.end];
-        first_feed(held).unwrap_or(held.len())
+        self.feed
     }
 
     fn skip_feed(&mut self)
@@ -189,10 +192,11 @@ impl Lines {
         ensures { self.new ≡ record { held = drop 1 self.old.held; line = self.old.line } }
     {
         self.start += 1;
+        self.feed = count_to_feed(&self.buf[self.start..self.end]);
     }
 
     fn move_to_line(&mut self, count: usize)
-        requires held { count ≤ length self.old.held }
+        requires held { count ≤ length (line_of self.old.held) }
         requires fits { length self.old.line + count ≤ 4096 }
         ensures { self.new ≡ record {
           held = drop count self.old.held;
@@ -202,6 +206,7 @@ impl Lines {
         copy_part(&mut self.line, self.len, &self.buf, self.start, count);
         self.start += count;
         self.len += count;
+        self.feed -= count;
     }
 }
 
@@ -219,4 +224,11 @@ fn first_feed(bytes: &[u8]) -> Option<usize>
     ensures { result ≡ position (λ b. b == 10) bytes.now }
 {
     bytes.iter().position(|byte| *byte == b'\n')
+}
+
+#[tactic(auto, using(crate::proofs::LineLemmas::place_of_feed))]
+fn count_to_feed(bytes: &[u8]) -> usize
+    ensures { result ≡ length (line_of bytes.now) }
+{
+    first_feed(bytes).unwrap_or(bytes.len())
 }

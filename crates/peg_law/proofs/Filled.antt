@@ -7,10 +7,10 @@ use Rattle.peg_model.specs.World.{World, happens, step, run}
 use Rattle.peg_law.specs.Places.{run_at, AreRising, quiet, filled}
 
 -- a world behind a quiet event
-abbrev quieted : World → ℕ → World
+abbrev pub quieted : World → ℕ → World
 quieted w place = record w { place = place; packets = w.packets ++ [] }
 
-quiet_step : (w : World) (place : ℕ) → (step w place quiet).0 ≡ quieted w place
+pub quiet_step : (w : World) (place : ℕ) → (step w place quiet).0 ≡ quieted w place
 unfolding happens packet_of
 quiet_step w place = refl
 

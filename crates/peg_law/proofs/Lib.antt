@@ -61,3 +61,6 @@ pub mod Rounds
 pub mod Sample
 pub mod Filled
 pub mod Places
+pub mod Gaps
+pub mod OfRun
+pub mod Refusals

@@ -12,14 +12,14 @@ use Rattle.peg_law.proofs.Filled.{filled_run}
 
 -- ---- one more event
 
-run_one_more :
+pub run_one_more :
     (w : World) (placed : List (ℕ × Event)) (at : ℕ) (e : Event)
     → (run_at w (placed ++ (at, e) ∷ [])).0 ≡ (step (run_at w placed).0 at e).0
 unfolding run_at
 run_one_more w [] at e = refl
 run_one_more w ((place, first) ∷ placed) at e = run_one_more (step w place first).0 placed at e
 
-rising_one_more :
+pub rising_one_more :
     (from place at : ℕ) (placed : List (ℕ × Event)) (e : Event) → AreRising from placed
     → AllByRecursion (λ p. p.0 ≤ place) placed → from ≤ at → place < at
     → AreRising from (placed ++ (at, e) ∷ [])
@@ -30,7 +30,7 @@ rising_one_more from place at ((first, f) ∷ placed) e rising up low high = (
       (let most = up.0 in omega (arith, most, high)) high,
 )
 
-all_one_more :
+pub all_one_more :
     (P : ℕ × Event → Type 0) (placed : List (ℕ × Event)) (p : ℕ × Event)
     → AllByRecursion P placed → P p → AllByRecursion P (placed ++ p ∷ [])
 all_one_more P [] p all one = (one, tt)
@@ -104,7 +104,7 @@ all_quiet_then rack zero events all = all
 all_quiet_then rack (suc k) events all =
     (quiet_of_line rack, all_quiet_then rack k events all)
 
-filled_of_lines :
+pub filled_of_lines :
     (rack : Rack) (place : ℕ) (placed : List (ℕ × Event))
     → AllByRecursion (λ p. IsLine rack p.1) placed
     → AllByRecursion (IsLine rack) (filled place placed)

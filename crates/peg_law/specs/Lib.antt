@@ -10,3 +10,5 @@ pub mod Settled
 pub mod Guarded
 pub mod Reached
 pub mod Places
+pub mod OfRun
+pub mod Refusals

@@ -1,5 +1,6 @@
 -- Runs whose events stand at places with gaps between them.
 --     run_at w placed      the world after events at given places, and the lines with these
+--     moments_at w placed      the lines of such a run, one by one
 --     AreRising place placed      each place is above the one before, and the first at least this
 --     quiet      an event that changes nothing
 --     filled place placed      the events, with quiet ones in the gaps
@@ -14,6 +15,7 @@ use Rattle.peg_event.specs.declared.Event.{Event}
 use Rattle.peg_event.specs.declared.Event.TheVariants as event
 use Rattle.peg_event.specs.declared.Line.{Line}
 use Rattle.peg_model.specs.World.{World, start, step, run}
+use Rattle.peg_model.specs.Moments.{Moment}
 use Rattle.peg_law.specs.Lines.{IsLine}
 
 unfoldable pub run_at : World → List (ℕ × Event) → World × List (ℕ × Line)
@@ -22,6 +24,16 @@ run_at w ((place, e) ∷ placed) =
     let now = step w place e in
     let rest = run_at now.0 placed in
     (rest.0, (place, now.1) ∷ rest.1)
+
+-- an event at its place, and what its line says
+abbrev pub moment_at : World → ℕ → Event → Moment
+moment_at w place e =
+    record { place = place; event = e; before = w; line = (step w place e).1 }
+
+abbrev pub moments_at : World → List (ℕ × Event) → List Moment
+moments_at w [] = []
+moments_at w ((place, e) ∷ placed) =
+    moment_at w place e ∷ moments_at (step w place e).0 placed
 
 abbrev pub AreRising : ℕ → List (ℕ × Event) → Type 0
 AreRising place [] = Unit {0}

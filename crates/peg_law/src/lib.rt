@@ -2,10 +2,18 @@
 //! or reordered. Each law is a function that does nothing, and its contract is the law.
 #![tactic(auto)]
 
-ghost use Rattle.std.specs.Prelude.{◌≡◌, ◌≤◌, ◌<◌, ℕ, List, Contains};
+ghost use Rattle.std.specs.Prelude.{◌≡◌, ◌≤◌, ◌<◌, ℕ, true, is_none, List, Contains};
 ghost use Rattle.std.specs.List.{AllByRecursion};
 ghost use Rattle.peg_name.specs.Name.{Rack};
+ghost use Rattle.peg_event.specs.declared.Ask.{Ask};
+ghost use Rattle.peg_event.specs.declared.Command.{Command};
 ghost use Rattle.peg_event.specs.declared.Event.{Event};
+ghost use Rattle.peg_model.specs.Client.{Client, begin_operation, resend, give_up};
+ghost use Rattle.peg_model.specs.Controller.{Controller, order_command, make_plan};
+ghost use Rattle.peg_model.specs.Datagrams.{server_on_bytes, client_on_bytes, switch_on_bytes};
+ghost use Rattle.peg_model.specs.Datagrams.{controller_on_bytes};
+ghost use Rattle.peg_model.specs.Server.{Server};
+ghost use Rattle.peg_model.specs.Switch.{Switch};
 ghost use Rattle.peg_model.specs.World.{World, start, step, run};
 ghost use Rattle.peg_model.specs.Schedule.{IsStart};
 ghost use Rattle.peg_model.specs.Headline.{OrdersAreHistories};
@@ -20,6 +28,11 @@ ghost use Rattle.peg_law.specs.Settled.{CommandsSettle};
 ghost use Rattle.peg_law.specs.Reached.{ReachesWhatWasAnswered};
 ghost use Rattle.peg_law.specs.Lines.{IsLine};
 ghost use Rattle.peg_law.specs.Places.{run_at, AreRising, filled, IsReached, IsEndOfRun};
+ghost use Rattle.peg_law.specs.Places.{moment_at, moments_at};
+ghost use Rattle.peg_law.specs.Refusals.{LeavesAll, server_refuses, switch_refuses, client_refuses};
+ghost use Rattle.peg_law.specs.Refusals.{controller_refuses, issue_refuses, order_refuses};
+ghost use Rattle.peg_law.specs.Refusals.{plan_refuses};
+ghost use Rattle.peg_law.specs.OfRun.{IsWorldOfRun, KeepsLaws, ShowsRun};
 ghost use Rattle.peg_model.specs.Moments.{Moment, moments, FullRound, IsAnsweredAt, IsInPlace};
 
 /// For those who build on a rack: a client gets its answer where the network does its part. If a
@@ -231,4 +244,97 @@ pub fn reaches_ends_of_runs()
         → IsReached rack keys place w → w.rack ≡ rack }
     ensures ends { (rack : Rack) (keys : List (List ℕ)) (place : ℕ) (w : World)
         → IsReached rack keys place w → IsEndOfRun rack keys w }
+{}
+
+/// For those who number the events of a run with gaps between them: a client gets its answer there
+/// too, where the network does its part.
+pub fn answers_full_rounds_at_places()
+    ensures { (rack : Rack) (keys : List (List ℕ)) (placed : List (ℕ × Event)) (client seq : ℕ)
+        → (last : Moment) → AreRising 2 placed
+        → FullRound (moments_at (start rack keys) placed) client seq last
+        → IsAnsweredAt last client seq }
+{
+    answers_full_rounds();
+}
+
+/// For those who number the events of a run with gaps between them: a refusal tells of a fault
+/// outside it there too.
+pub fn refuses_nothing_at_places()
+    ensures { (rack : Rack) (keys : List (List ℕ)) (placed : List (ℕ × Event))
+        → IsStart rack keys → AreRising 2 placed → AllByRecursion (λ p. IsLine rack p.1) placed
+        → (m : Moment) → Contains (moments_at (start rack keys) placed) m → IsInPlace m }
+{
+    refuses_nothing();
+}
+
+/// For those who keep a world while its events come one by one, at rising places: it is enough to
+/// keep that it is the world of a run, or that it shows one. So it is with a rack as it begins,
+/// and again after one more event at a later place. Then all laws hold of it, whatever came; its
+/// next line says nothing of out of place; and what has the packets and the operations of such a
+/// world, whatever else became of it, has orders that are register histories.
+pub fn keeps_worlds_of_runs()
+    ensures begins { (rack : Rack) (keys : List (List ℕ)) → IsStart rack keys
+        → IsWorldOfRun (start rack keys) }
+    ensures steps { (w : World) (at : ℕ) (e : Event) → IsWorldOfRun w → w.place < at
+        → IsLine w.rack e → IsWorldOfRun (step w at e).0 }
+    ensures laws { (w : World) → IsWorldOfRun w → KeepsLaws w }
+    ensures in_place { (w : World) (at : ℕ) (e : Event) → IsWorldOfRun w → w.place < at
+        → IsLine w.rack e → IsInPlace (moment_at w at e) }
+    ensures shown { (w : World) → ShowsRun w → OrdersAreHistories w × ActsOnce w.packets }
+{
+    prints_register_histories();
+    acts_once();
+    keeps_versions_below_next();
+    gives_each_version_once();
+    holds_what_it_reports();
+    covers_each_key();
+    fences_each_key();
+    keeps_the_last_fences();
+    reaches_what_was_answered();
+    hands_over_one_state();
+    gives_one_command();
+    settles_each_command();
+    refuses_nothing_at_places();
+}
+
+/// For those who hand bytes to a server: a refusal leaves it as it was and sends nothing, which is
+/// the same as a lost packet. So does an order to copy what it hasn't, and a write that is barred.
+pub fn refuses_at_a_server()
+    ensures { (s : Server) (bytes : List ℕ)
+        → server_refuses (server_on_bytes s bytes).did ≡ true
+        → LeavesAll s (server_on_bytes s bytes) }
+{}
+
+/// For those who hand bytes to a switch: a refusal leaves it as it was and sends nothing.
+pub fn refuses_at_a_switch()
+    ensures { (s : Switch) (bytes : List ℕ) (pick : ℕ)
+        → switch_refuses (switch_on_bytes s bytes pick).did ≡ true
+        → LeavesAll s (switch_on_bytes s bytes pick) }
+{}
+
+/// For those who hand bytes to a client or ask something of it: what it ignores, and what it can't
+/// do, leaves it as it was and sends nothing.
+pub fn refuses_at_a_client()
+    ensures takes { (c : Client) (bytes : List ℕ)
+        → client_refuses (client_on_bytes c bytes).did ≡ true
+        → LeavesAll c (client_on_bytes c bytes) }
+    ensures issues { (c : Client) (key : List ℕ) (ask : Ask)
+        → issue_refuses (begin_operation c key ask).did ≡ true
+        → LeavesAll c (begin_operation c key ask) }
+    ensures resends { (c : Client) → is_none (resend c).did ≡ true → LeavesAll c (resend c) }
+    ensures gives_up { (c : Client) → is_none (give_up c).did ≡ true → LeavesAll c (give_up c) }
+{}
+
+/// For those who hand bytes to the controller or ask something of it: a refusal leaves it as it was
+/// and sends nothing.
+pub fn refuses_at_the_controller()
+    ensures takes { (c : Controller) (bytes : List ℕ)
+        → controller_refuses (controller_on_bytes c bytes).did ≡ true
+        → LeavesAll c (controller_on_bytes c bytes) }
+    ensures orders { (c : Controller) (command : Command)
+        → order_refuses (order_command c command).did ≡ true
+        → LeavesAll c (order_command c command) }
+    ensures plans { (c : Controller) (promote_at demote_below : ℕ)
+        → plan_refuses (make_plan c promote_at demote_below).did ≡ true
+        → LeavesAll c (make_plan c promote_at demote_below) }
 {}

@@ -1,6 +1,6 @@
 -- The first number of a rack that is out of its limit.
 --     is_between low high n      whether the number is one of these
---     format_of n      the format with this number
+--     number_of format, format_of n      the number of a format, and the format with this number
 --     config_of format rack      the rack in the format with this number, or the first number that
 --         is out of its limit
 use Rattle.std.specs.Prelude.{ℕ, Bool, Result, Ok, Err, Option, Some, None, nat_lt, nat_le, ◌&&◌}
@@ -13,6 +13,10 @@ use Rattle.peg_name.specs.declared.ConfigFault.TheVariants as fault
 
 abbrev pub is_between : ℕ → ℕ → ℕ → Bool
 is_between low high n = nat_le low n && nat_le n high
+
+abbrev pub number_of : Format → ℕ
+number_of One = 1
+number_of Two = 2
 
 abbrev pub format_of : ℕ → Option Format
 format_of n = if n == 1 then Some One else (if n == 2 then Some Two else None)

@@ -10,8 +10,7 @@ ghost use Rattle.std.specs.Ordering.{nat_cmp};
 ghost use Rattle.std.specs.Cmp.Lexicographic.{pointwise, slice_cmp, nat_list_eq_equiv};
 ghost use Rattle.std.specs.Cmp.Lexicographic.{nat_list_cmp_total, texts_po, texts_ties};
 ghost use Rattle.std.specs.Cmp.{partial_equiv_from_equiv};
-ghost use Rattle.peg_name.specs.Name.{IsKey, IsValue, home_of, InLimits, servers_most};
-ghost use Rattle.peg_name.specs.Name.{clients_most};
+ghost use Rattle.peg_name.specs.Name.{IsKey, IsValue, home_of, InLimits};
 ghost use Rattle.peg_name.specs.Limits.{config_of};
 ghost use Rattle.peg_name.specs.Holders.{servers_of, bits_of, with_holder};
 ghost use Rattle.std.specs.List.{list_any};
@@ -22,6 +21,7 @@ use std::hash::{Hash, Hasher};
 use std::marker::Model;
 use thiserror::Error;
 
+mod limits;
 #[cfg(test)]
 mod tests;
 
@@ -169,16 +169,18 @@ impl Ord for Key {
 }
 
 impl Hash for Key {
-    ghost use Rattle.std.specs.Hash as fed;
+    ghost use Rattle.std.specs.Prelude.{◌∷◌, []};
     ghost use Rattle.std.specs.Cmp.Rules.{hashing};
     ghost use Rattle.std.proofs.Common.{rules};
 
-    ghost hash_input = { λ key. fed.slice fed.u8 key };
+    ghost hash_input = { λ key. key ∷ [] };
 
     ghost respects_eq = { Prim.search (hashing, rules) };
 
+    // In one write of its bytes. A hash without a secret lets users choose keys that collide; a
+    // search is then as long as the map, and its answer the same.
     fn hash<H: Hasher>(&self, state: &mut H) {
-        self.bytes().hash(state);
+        state.write(self.bytes());
     }
 }
 
@@ -411,25 +413,6 @@ impl Model for Config {
     } };
 }
 
-fn most_servers(format: Format) -> u64
-    ensures most { result ≡ servers_most format }
-    ensures few { result ≤ 64 }
-{
-    match format {
-        Format::One => 16,
-        Format::Two => 64,
-    }
-}
-
-fn most_clients(format: Format) -> u64
-    ensures { result ≡ clients_most format }
-{
-    match format {
-        Format::One => 256,
-        Format::Two => 1024,
-    }
-}
-
 /// The first number of a rack that is out of its limit.
 #[derive(Clone, Copy, Debug, PartialEq, Eq, Error)]
 pub enum ConfigFault {
@@ -473,15 +456,11 @@ impl Config {
           first = first;
         }) }
     {
-        let format = match format {
-            1 => Format::One,
-            2 => Format::Two,
-            _ => return Err(ConfigFault::Format),
-        };
-        if servers < 1 || servers > most_servers(format) {
+        let format = Format::of_number(format).ok_or(ConfigFault::Format)?;
+        if servers < 1 || servers > format.most_servers() {
             return Err(ConfigFault::Servers);
         }
-        if clients < 1 || clients > most_clients(format) {
+        if clients < 1 || clients > format.most_clients() {
             return Err(ConfigFault::Clients);
         }
         if switches < 1 || switches > 4 {
@@ -520,7 +499,7 @@ impl Config {
         ensures limits { InLimits self.now }
         ensures few { result ≤ 64 }
     {
-        prove!(most_servers(self.format) <= 64);
+        prove!(self.format.most_servers() <= 64);
         self.servers
     }
 }

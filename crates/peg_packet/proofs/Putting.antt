@@ -1,6 +1,10 @@
 -- Bytes that were put behind one another.
-use Rattle.std.proofs.Common.{◌≡◌, ℕ, ◌+◌, List, ◌++◌, length, take, ap, ◌∙◌, arith}
+use Rattle.std.proofs.Common.{◌≡◌, ℕ, ◌+◌, List, ◌++◌, length, take, ap, refl, ◌∙◌, arith}
 use Rattle.std.proofs.Common.{append_assoc, length-append}
+use Rattle.peg_name.specs.declared.Format.{Format}
+use Rattle.peg_name.specs.declared.Format.TheVariants.{One, Two}
+use Rattle.peg_name.specs.Limits.{number_of}
+use Rattle.peg_model.specs.Packet.{format_byte}
 use Rattle.peg_packet.specs.Puts.{Puts}
 
 pub puts_then :
@@ -19,3 +23,8 @@ puts_same {a} {b} {i} {j} {xs} {ys} p e =
       next = p.next ∙ ap (λ t. i + length t) e;
       written = p.written ∙ ap (λ t. take i a ++ t) e;
     }
+
+-- a format is spelled by its number
+pub format_byte-number : (format : Format) → number_of format ≡ format_byte format
+format_byte-number One = refl
+format_byte-number Two = refl

@@ -48,14 +48,13 @@ rows_seen rows = rows_in rows.bytes.now rows.count
 abbrev pub seen : Packet → model.Packet
 seen (packet.Read client seq key) = model.Read client seq key.now
 seen (packet.Write client seq key content) = model.Write client seq key.now (content_seen content)
-seen (packet.ToServerRead client seq server switch key) =
-    model.ToServerRead client seq server switch key.now
-seen (packet.ToServerWrite client seq version server switch key content) =
-    model.ToServerWrite client seq version server switch key.now (content_seen content)
-seen (packet.ReadReply client seq version server switch key content) =
-    model.ReadReply client seq version server switch key.now (content_seen content)
-seen (packet.WriteReply client seq version server switch key) =
-    model.WriteReply client seq version server switch key.now
+seen (packet.ToServerRead h key) = model.ToServerRead h.client h.seq h.server h.switch key.now
+seen (packet.ToServerWrite h version key content) =
+    model.ToServerWrite h.client h.seq version h.server h.switch key.now (content_seen content)
+seen (packet.ReadReply h version key content) =
+    model.ReadReply h.client h.seq version h.server h.switch key.now (content_seen content)
+seen (packet.WriteReply h version key) =
+    model.WriteReply h.client h.seq version h.server h.switch key.now
 seen (packet.Command number w) = model.Command number (what_seen w)
 seen (packet.CommandAck number code value) = model.CommandAck number (outcome_seen code value)
 seen (packet.CopyOrder switch server target key) = model.CopyOrder switch server target key.now
@@ -67,5 +66,5 @@ seen (packet.Announce epoch switch) = model.Announce epoch switch
 seen packet.Survey = model.Survey
 seen (packet.Report epoch total rows) = model.Report epoch total (rows_seen rows)
 seen (packet.Fence switch server version key) = model.Fence switch server version key.now
-seen (packet.Void client seq version server switch key) =
-    model.Void client seq version server switch key.now
+seen (packet.Void h version key) =
+    model.Void h.client h.seq version h.server h.switch key.now

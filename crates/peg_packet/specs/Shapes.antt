@@ -2,7 +2,7 @@
 --     Reads bytes format p result      the result is the packet p where the bytes spell it, and
 --         none where they do not
 --     LastKey, KeyFrom, ContentFrom      a key or a content that stands at a place
---     HeadAt bytes head      the fields of the client family before the key
+--     HeaderAt bytes header version      a header at its places, around a version
 use Rattle.std.specs.Prelude.{◌≡◌, ◌≤◌, ◌<◌, ◌+◌, ℕ, true, List, ◌∷◌, ◌++◌, length, take, drop}
 use Rattle.std.specs.Prelude.{Option, Some, MatchOption, option_and_then}
 use Rattle.std.specs.Borrow.{Bor}
@@ -10,7 +10,7 @@ use Rattle.peg_name.specs.declared.Format.{Format}
 use Rattle.peg_name.specs.declared.Content.{Content}
 use Rattle.peg_packet.specs.declared.Packet.{Packet}
 use Rattle.peg_packet.specs.declared.What.{What}
-use Rattle.peg_packet.specs.declared.Head.{Head}
+use Rattle.peg_packet.specs.declared.Header.{Header}
 use Rattle.peg_packet.specs.Seen.{seen, content_seen, what_seen}
 use Rattle.peg_model.specs.Packet as model
 use Rattle.peg_model.specs.Packet.{in_range, spelling, begin, two, eight, key_bytes, content_bytes}
@@ -104,12 +104,12 @@ LastPair bytes at result =
     → ⊥)
     (λ r. IsLastPair bytes at r.0.now (content_seen r.1))
 
-pub record HeadAt (bytes : List ℕ) (head : Head) : Type 0 where
-  pub client : head.client ≡ two_at bytes 4
-  pub seq : head.seq ≡ eight_at bytes 6
-  pub version : head.version ≡ eight_at bytes 14
-  pub server : head.server ≡ one_at bytes 22
-  pub switch : head.switch ≡ one_at bytes 23
+pub record HeaderAt (bytes : List ℕ) (header : Header) (version : ℕ) : Type 0 where
+  pub client : header.client ≡ two_at bytes 4
+  pub seq : header.seq ≡ eight_at bytes 6
+  pub version_is : version ≡ eight_at bytes 14
+  pub server : header.server ≡ one_at bytes 22
+  pub switch : header.switch ≡ one_at bytes 23
   pub whole :
       drop 4 bytes
       ≡ two (two_at bytes 4)

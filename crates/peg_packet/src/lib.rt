@@ -6,6 +6,8 @@ ghost use Rattle.std.specs.Prelude.{◌≡◌};
 
 use peg_name::{ClientId, Seq, ServerId, SwitchId, Version};
 
+mod codes;
+mod commands;
 mod outcomes;
 mod owned;
 mod parts;
@@ -13,6 +15,7 @@ mod post;
 mod puts;
 mod range;
 mod read;
+mod report;
 mod row;
 mod rows;
 #[cfg(test)]
@@ -44,6 +47,30 @@ pub enum What<'a> {
     Fence { key: &'a [u8] },
 }
 
+/// What a packet between a switch and a server begins with: the client and the number of its
+/// operation, the server that it goes to or comes from, and the switch at the other end.
+#[derive(Clone, Copy)]
+pub struct Header {
+    pub client: ClientId,
+    pub seq: Seq,
+    pub server: ServerId,
+    pub switch: SwitchId,
+}
+
+impl Header {
+    /// That of a client's request, which names no server and no switch.
+    fn of_request(client: ClientId, seq: Seq) -> Header
+        ensures { result ≡ record { client = client; seq = seq; server = 0; switch = 0 } }
+    {
+        Header {
+            client,
+            seq,
+            server: ServerId(0),
+            switch: SwitchId(0),
+        }
+    }
+}
+
 /// A packet. Its key, value, part and rows are lent, from the datagram it was read from or from
 /// the node that sends it. A content of `None` is absent. A field that its kind fixes at 0 is left
 /// out.
@@ -70,39 +97,27 @@ pub enum Packet<'a> {
     },
     /// From a switch to a server.
     ToServerRead {
-        client: ClientId,
-        seq: Seq,
-        server: ServerId,
-        switch: SwitchId,
+        header: Header,
         key: &'a [u8],
     },
     /// From a switch to a server.
     ToServerWrite {
-        client: ClientId,
-        seq: Seq,
+        header: Header,
         version: Version,
-        server: ServerId,
-        switch: SwitchId,
         key: &'a [u8],
         content: Option<&'a [u8]>,
     },
     /// From a server to a switch, and on to the client.
     ReadReply {
-        client: ClientId,
-        seq: Seq,
+        header: Header,
         version: Version,
-        server: ServerId,
-        switch: SwitchId,
         key: &'a [u8],
         content: Option<&'a [u8]>,
     },
     /// From a server to a switch, and on to the client.
     WriteReply {
-        client: ClientId,
-        seq: Seq,
+        header: Header,
         version: Version,
-        server: ServerId,
-        switch: SwitchId,
         key: &'a [u8],
     },
     /// From the controller to a switch.
@@ -169,42 +184,8 @@ pub enum Packet<'a> {
     },
     /// From a server to a switch: a write came too late at its version.
     Void {
-        client: ClientId,
-        seq: Seq,
+        header: Header,
         version: Version,
-        server: ServerId,
-        switch: SwitchId,
         key: &'a [u8],
     },
-}
-
-/// The fields of the kinds between clients and servers that stand before the key.
-#[derive(Clone, Copy)]
-struct Head {
-    client: ClientId,
-    seq: Seq,
-    version: Version,
-    server: ServerId,
-    switch: SwitchId,
-}
-
-impl Head {
-    /// The fields of a client's request.
-    fn request(client: ClientId, seq: Seq) -> Head
-        ensures { result ≡ record {
-          client = client;
-          seq = seq;
-          version = 0;
-          server = 0;
-          switch = 0;
-        } }
-    {
-        Head {
-            client,
-            seq,
-            version: Version(0),
-            server: ServerId(0),
-            switch: SwitchId(0),
-        }
-    }
 }

@@ -7,6 +7,7 @@ ghost use Rattle.peg_model.specs.Reading.{outcome_with};
 ghost use Rattle.peg_packet.specs.Seen.{seen, outcome_seen, no_outcome};
 
 use crate::Packet;
+use crate::codes::results;
 use peg_event::Outcome;
 
 /// The number and the value of an outcome.
@@ -15,19 +16,19 @@ pub fn pair_of(outcome: Outcome) -> (u8, u64)
     ensures read { outcome_with result.0 result.1 ≡ Some outcome }
 {
     match outcome {
-        Outcome::Listed(listing) => (1, listing),
-        Outcome::Already(listing) => (2, listing),
-        Outcome::Full(count) => (3, count),
-        Outcome::Marked(mark) => (4, mark),
-        Outcome::NotListed => (5, 0),
-        Outcome::AlreadyMarked(mark) => (6, mark),
-        Outcome::Ordered(server) => (7, server),
-        Outcome::Holds => (8, 0),
-        Outcome::Activated(epoch) => (9, epoch),
-        Outcome::Cleared => (10, 0),
-        Outcome::Fenced(base) => (11, base),
-        Outcome::NoBase => (12, 0),
-        Outcome::NoVersion(next) => (13, next),
+        Outcome::Listed(listing) => (results::LISTED, listing),
+        Outcome::Already(listing) => (results::ALREADY, listing),
+        Outcome::Full(count) => (results::FULL, count),
+        Outcome::Marked(mark) => (results::MARKED, mark),
+        Outcome::NotListed => (results::NOT_LISTED, 0),
+        Outcome::AlreadyMarked(mark) => (results::ALREADY_MARKED, mark),
+        Outcome::Ordered(server) => (results::ORDERED, server),
+        Outcome::Holds => (results::HOLDS, 0),
+        Outcome::Activated(epoch) => (results::ACTIVATED, epoch),
+        Outcome::Cleared => (results::CLEARED, 0),
+        Outcome::Fenced(base) => (results::FENCED, base),
+        Outcome::NoBase => (results::NO_BASE, 0),
+        Outcome::NoVersion(next) => (results::NO_VERSION, next),
     }
 }
 
@@ -37,19 +38,19 @@ fn with_number(number: u8, value: u64) -> Option<Outcome>
         → outcome_bytes o ≡ number ∷ eight value → ⊥) (λ o. outcome_with number value ≡ Some o) }
 {
     let outcome = match number {
-        1 => Outcome::Listed(value),
-        2 => Outcome::Already(value),
-        3 => Outcome::Full(value),
-        4 => Outcome::Marked(value),
-        5 => Outcome::NotListed,
-        6 => Outcome::AlreadyMarked(value),
-        7 => Outcome::Ordered(value),
-        8 => Outcome::Holds,
-        9 => Outcome::Activated(value),
-        10 => Outcome::Cleared,
-        11 => Outcome::Fenced(value),
-        12 => Outcome::NoBase,
-        13 => Outcome::NoVersion(value),
+        results::LISTED => Outcome::Listed(value),
+        results::ALREADY => Outcome::Already(value),
+        results::FULL => Outcome::Full(value),
+        results::MARKED => Outcome::Marked(value),
+        results::NOT_LISTED => Outcome::NotListed,
+        results::ALREADY_MARKED => Outcome::AlreadyMarked(value),
+        results::ORDERED => Outcome::Ordered(value),
+        results::HOLDS => Outcome::Holds,
+        results::ACTIVATED => Outcome::Activated(value),
+        results::CLEARED => Outcome::Cleared,
+        results::FENCED => Outcome::Fenced(value),
+        results::NO_BASE => Outcome::NoBase,
+        results::NO_VERSION => Outcome::NoVersion(value),
         _ => return None,
     };
     Some(outcome)
@@ -63,9 +64,7 @@ pub fn spelled_by(number: u8, value: u64) -> Option<Outcome>
     ensures spelled { IfSome result (λ o. outcome_bytes o ≡ number ∷ eight value) }
     ensures seen { unwrap_or result no_outcome ≡ outcome_seen number value }
 {
-    let Some(outcome) = with_number(number, value) else {
-        return None;
-    };
+    let outcome = with_number(number, value)?;
     let (code, held) = pair_of(outcome);
     if code == number && held == value {
         Some(outcome)

@@ -4,9 +4,9 @@ ghost use Rattle.std.specs.Prelude.{◌≡◌, ◌≤◌, ◌+◌, ◌++◌, len
 ghost use Rattle.peg_model.specs.Packet.{two, eight};
 ghost use Rattle.peg_model.specs.Reading.{two_at, eight_at};
 ghost use Rattle.peg_packet.specs.Shapes.{KeyFrom, LastKey, LastValue, LastContent, LastPair};
-ghost use Rattle.peg_packet.specs.Shapes.{HeadAt};
+ghost use Rattle.peg_packet.specs.Shapes.{HeaderAt};
 
-use crate::Head;
+use crate::Header;
 use peg_name::{ClientId, Seq, ServerId, SwitchId, Version};
 
 /// The number in the two bytes at a place.
@@ -33,18 +33,18 @@ pub fn eight_at(bytes: &[u8], at: usize) -> u64
     }
 }
 
-/// The fields before the key of a kind between clients and servers.
-pub fn head(bytes: &[u8]) -> Head
+/// The header of a kind between clients and servers, and the version that stands within it.
+pub fn header(bytes: &[u8]) -> (Header, Version)
     requires { 24 ≤ length bytes.now }
-    ensures { HeadAt bytes.now result }
+    ensures { HeaderAt bytes.now result.0 result.1 }
 {
-    Head {
+    let header = Header {
         client: ClientId(two_at(bytes, 4)),
         seq: Seq(eight_at(bytes, 6)),
-        version: Version(eight_at(bytes, 14)),
         server: ServerId(bytes[22]),
         switch: SwitchId(bytes[23]),
-    }
+    };
+    (header, Version(eight_at(bytes, 14)))
 }
 
 /// The bytes from a place on.
@@ -73,9 +73,7 @@ pub fn key_from(bytes: &[u8], at: usize) -> Option<(&[u8], usize)>
 pub fn last_key(bytes: &[u8], at: usize) -> Option<&[u8]>
     ensures { LastKey bytes.now at result }
 {
-    let Some((key, next)) = key_from(bytes, at) else {
-        return None;
-    };
+    let (key, next) = key_from(bytes, at)?;
     if next == bytes.len() { Some(key) } else { None }
 }
 
@@ -112,11 +110,7 @@ pub fn last_content(bytes: &[u8], at: usize) -> Option<Option<&[u8]>>
 pub fn last_pair(bytes: &[u8], at: usize) -> Option<(&[u8], Option<&[u8]>)>
     ensures { LastPair bytes.now at result }
 {
-    let Some((key, next)) = key_from(bytes, at) else {
-        return None;
-    };
-    let Some(content) = last_content(bytes, next) else {
-        return None;
-    };
+    let (key, next) = key_from(bytes, at)?;
+    let content = last_content(bytes, next)?;
     Some((key, content))
 }

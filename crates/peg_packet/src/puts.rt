@@ -1,13 +1,14 @@
 //! Parts of a packet, written behind the first bytes of a buffer. Each call answers the new end.
 
 ghost use Rattle.std.specs.Prelude.{◌≡◌, ◌≤◌, ◌<◌, ◌+◌, [], ◌∷◌, ◌++◌, length};
-ghost use Rattle.peg_model.specs.Packet.{begin, format_byte, two, eight, key_bytes, content_bytes};
+ghost use Rattle.peg_model.specs.Packet.{begin, two, eight, key_bytes, content_bytes};
 ghost use Rattle.peg_model.specs.Packet.{what_bytes, family};
-ghost use Rattle.peg_packet.specs.Puts.{Puts, head_bytes};
+ghost use Rattle.peg_packet.specs.Puts.{Puts, header_bytes};
 ghost use Rattle.peg_grammar.specs.Fits.{FitsKey, FitsContent, FitsWhat};
 ghost use Rattle.peg_packet.specs.Seen.{content_seen, what_seen};
 
-use crate::{Head, What};
+use crate::codes::whats;
+use crate::{Header, What};
 use byteorder::{BigEndian, ByteOrder};
 use peg_name::{ClientId, Format, Seq, ServerId, SwitchId, Version};
 
@@ -82,20 +83,11 @@ pub fn put_slice(out: &mut [u8; MOST], at: usize, bytes: &[u8]) -> usize
     end
 }
 
-fn format_byte(format: Format) -> u8
-    ensures { result ≡ format_byte format }
-{
-    match format {
-        Format::One => 1,
-        Format::Two => 2,
-    }
-}
-
 /// The four bytes that begin a packet of this kind.
 pub fn put_begin(out: &mut [u8; MOST], format: Format, kind: u8) -> usize
     ensures { Puts out.old out.new 0 result (begin format kind) }
 {
-    put_slice(out, 0, &[0x50, 0x47, format_byte(format), kind])
+    put_slice(out, 0, &[0x50, 0x47, format.number(), kind])
 }
 
 pub fn put_key(out: &mut [u8; MOST], at: usize, key: &[u8]) -> usize
@@ -131,26 +123,33 @@ pub fn put_content(out: &mut [u8; MOST], at: usize, content: Option<&[u8]>) -> u
     }
 }
 
-/// The fields of a kind between clients and servers.
-fn put_head(out: &mut [u8; MOST], at: usize, head: &Head) -> usize
+/// A header, around a version.
+fn put_header(out: &mut [u8; MOST], at: usize, header: &Header, version: Version) -> usize
     requires { at + 20 ≤ 1152 }
-    ensures { Puts out.old out.new at result (head_bytes head.now) }
+    ensures { Puts out.old out.new at result (header_bytes header.now version) }
 {
-    let at = put_client(out, at, head.client);
-    let at = put_seq(out, at, head.seq);
-    let at = put_version(out, at, head.version);
-    let at = put_server(out, at, head.server);
-    put_switch(out, at, head.switch)
+    let at = put_client(out, at, header.client);
+    let at = put_seq(out, at, header.seq);
+    let at = put_version(out, at, version);
+    let at = put_server(out, at, header.server);
+    put_switch(out, at, header.switch)
 }
 
 /// A packet of a kind between clients and servers, up to its content.
-pub fn put_family(out: &mut [u8; MOST], format: Format, kind: u8, head: &Head, key: &[u8]) -> usize
+pub fn put_family(
+    out: &mut [u8; MOST],
+    format: Format,
+    kind: u8,
+    header: &Header,
+    version: Version,
+    key: &[u8],
+) -> usize
     requires { FitsKey key.now }
-    ensures { Puts out.old out.new 0 result (family format kind head.now.client head.now.seq
-        head.now.version head.now.server head.now.switch key.now) }
+    ensures { Puts out.old out.new 0 result (family format kind header.now.client header.now.seq
+        version header.now.server header.now.switch key.now) }
 {
     let at = put_begin(out, format, kind);
-    let at = put_head(out, at, head);
+    let at = put_header(out, at, header, version);
     put_key(out, at, key)
 }
 
@@ -160,19 +159,19 @@ pub fn put_what(out: &mut [u8; MOST], at: usize, what: &What<'_>) -> usize
     ensures { Puts out.old out.new at result (what_bytes (what_seen what.now)) }
 {
     match *what {
-        What::Promote { key } => put_named(out, at, 1, key),
-        What::Demote { key } => put_named(out, at, 2, key),
+        What::Promote { key } => put_named(out, at, whats::PROMOTE, key),
+        What::Demote { key } => put_named(out, at, whats::DEMOTE, key),
         What::Copy { target, key } => {
-            let at = put_byte(out, at, 3);
+            let at = put_byte(out, at, whats::COPY);
             put_named(out, at, target.0, key)
         }
         What::Seal { target, epoch } => {
-            let at = put_byte(out, at, 4);
+            let at = put_byte(out, at, whats::SEAL);
             let at = put_byte(out, at, target.0);
             put_eight(out, at, epoch)
         }
-        What::Clear => put_byte(out, at, 5),
-        What::Fence { key } => put_named(out, at, 6, key),
+        What::Clear => put_byte(out, at, whats::CLEAR),
+        What::Fence { key } => put_named(out, at, whats::FENCE, key),
     }
 }
 

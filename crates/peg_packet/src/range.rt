@@ -1,40 +1,29 @@
 //! Whether the numbers and the lengths of a packet are those that a packet of its format may have.
 
-ghost use Rattle.std.specs.Prelude.{◌≡◌, ◌&&◌, nat_lt, nat_le, length, true};
-ghost use Rattle.std.specs.List.{list_all};
-ghost use Rattle.peg_model.specs.Words.{is_in};
+ghost use Rattle.std.specs.Prelude.{◌≡◌, ◌≤◌, ◌&&◌, nat_lt, nat_le};
 ghost use Rattle.peg_model.specs.Packet.{is_client, is_positive, is_number, is_server, is_switch};
 ghost use Rattle.peg_model.specs.Packet.{is_key, is_value, is_content, is_written};
 ghost use Rattle.peg_model.specs.Packet.{is_read_content, what_in_range, outcome_in_range};
-ghost use Rattle.peg_model.specs.Packet.{part_in_range, row_in_range, are_distinct, keys_of_rows};
-ghost use Rattle.peg_model.specs.Packet.{family_in_range, in_range};
-ghost use Rattle.peg_model.specs.Reading.{rows_at};
-ghost use Rattle.peg_grammar.specs.Rows.{RowsFrom};
-ghost use Rattle.peg_packet.specs.Seen.{seen, what_seen, content_seen, rows_seen, outcome_seen};
-ghost use Rattle.peg_packet.specs.Family.{is_of_family};
+ghost use Rattle.peg_model.specs.Packet.{part_in_range, family_in_range, in_range};
+ghost use Rattle.peg_packet.specs.Seen.{seen, what_seen, content_seen, outcome_seen};
+ghost use Rattle.peg_packet.specs.Family.{family_of};
 
 use crate::outcomes::outcome_of;
-use crate::row::{past_row, row_at, row_key};
-use crate::{Head, Packet, Rows, What};
+use crate::report::is_report;
+use crate::{Header, Packet, What};
 use peg_event::Outcome;
-use peg_name::{ClientId, Format, Row, Seq, ServerId, SwitchId, Version};
+use peg_name::{ClientId, Format, ServerId, SwitchId, Version};
 
 fn is_client(format: Format, client: ClientId) -> bool
     ensures { result ≡ is_client format client }
 {
-    match format {
-        Format::One => client.0 < 256,
-        Format::Two => client.0 < 1024,
-    }
+    u64::from(client.0) < format.most_clients()
 }
 
 fn is_server_number(format: Format, server: u64) -> bool
     ensures { result ≡ is_server format server }
 {
-    match format {
-        Format::One => server < 16,
-        Format::Two => server < 64,
-    }
+    server < format.most_servers()
 }
 
 fn is_server(format: Format, server: ServerId) -> bool
@@ -58,10 +47,7 @@ pub fn is_key(key: &[u8]) -> bool
 fn is_value(format: Format, value: &[u8]) -> bool
     ensures { result ≡ is_value format value.now }
 {
-    match format {
-        Format::One => value.len() <= 512,
-        Format::Two => value.len() <= 1024,
-    }
+    value.len() <= format.most_of_value()
 }
 
 fn is_content(format: Format, content: Option<&[u8]>) -> bool
@@ -118,91 +104,32 @@ fn is_outcome(format: Format, outcome: Outcome) -> bool
 fn is_part(format: Format, index: u8, count: u8, bytes: &[u8]) -> bool
     ensures { result ≡ part_in_range format index count bytes.now }
 {
-    let most = match format {
-        Format::One => 32,
-        Format::Two => 64,
-    };
     index < count
-        && count <= most
+        && count <= format.most_parts()
         && 1 <= bytes.len()
         && bytes.len() <= 512
         && (count - index == 1 || bytes.len() == 512)
 }
 
-fn is_asked(format: Format, head: &Head) -> bool
-    ensures { result ≡ (is_client format head.now.client && is_positive head.now.seq
-        && is_number head.now.version) }
+fn is_asked(format: Format, header: &Header, version: Version) -> bool
+    ensures { result ≡ (is_client format header.now.client && is_positive header.now.seq
+        && is_number version) }
 {
-    let _version = head.version.0;
-    is_client(format, head.client) && head.seq.0 > 0
+    let _version = version.0;
+    is_client(format, header.client) && header.seq.0 > 0
 }
 
-fn are_nodes(format: Format, head: &Head) -> bool
-    ensures { result ≡ (is_server format head.now.server && is_switch head.now.switch) }
+fn are_nodes(format: Format, header: &Header) -> bool
+    ensures { result ≡ (is_server format header.now.server && is_switch header.now.switch) }
 {
-    is_server(format, head.server) && is_switch(head.switch)
+    is_server(format, header.server) && is_switch(header.switch)
 }
 
-fn is_head(format: Format, head: &Head, key: &[u8]) -> bool
-    ensures { result ≡ family_in_range format head.now.client head.now.seq head.now.version
-        head.now.server head.now.switch key.now }
+fn is_family(format: Format, header: &Header, version: Version, key: &[u8]) -> bool
+    ensures { result ≡ family_in_range format header.now.client header.now.seq version
+        header.now.server header.now.switch key.now }
 {
-    is_asked(format, head) && are_nodes(format, head) && is_key(key)
-}
-
-fn is_row(row: &Row) -> bool
-    ensures { result ≡ row_in_range row.now }
-{
-    is_key(row.key.bytes()) && row.count > 0 && row.error <= row.count
-}
-
-fn are_rows(rows: Rows<'_>) -> bool
-    ensures { result ≡ list_all row_in_range (rows_seen rows.entry) }
-{
-    let bytes = rows.bytes();
-    let mut at = 0;
-    let mut left = rows.len();
-    while left > 0 {
-        if !is_row(&row_at(bytes, at)) {
-            return false;
-        }
-        at = past_row(bytes, at);
-        left -= 1;
-    }
-    true
-}
-
-/// Whether a key is that of one of the rows at a place.
-fn is_among(bytes: &[u8], mut at: usize, count: usize, key: &[u8]) -> bool
-    requires { RowsFrom bytes.now count at }
-    ensures { result ≡ is_in key.now (keys_of_rows (rows_at bytes.now count at)) }
-{
-    let mut left = count;
-    while left > 0 {
-        if key == row_key(bytes, at) {
-            return true;
-        }
-        at = past_row(bytes, at);
-        left -= 1;
-    }
-    false
-}
-
-fn are_distinct(rows: Rows<'_>) -> bool
-    ensures { result ≡ are_distinct (keys_of_rows (rows_seen rows.entry)) }
-{
-    let bytes = rows.bytes();
-    let mut at = 0;
-    let mut left = rows.len();
-    while left > 0 {
-        let next = past_row(bytes, at);
-        left -= 1;
-        if is_among(bytes, next, left, row_key(bytes, at)) {
-            return false;
-        }
-        at = next;
-    }
-    true
+    is_asked(format, header, version) && are_nodes(format, header) && is_key(key)
 }
 
 fn is_positive(number: u64) -> bool
@@ -223,35 +150,53 @@ fn is_epoch(epoch: u64) -> bool
     epoch >= 2
 }
 
-fn is_family_write(format: Format, head: &Head, key: &[u8], content: Option<&[u8]>) -> bool
-    ensures { result ≡ (family_in_range format head.now.client head.now.seq head.now.version
-        head.now.server head.now.switch key.now
+fn is_family_write(
+    format: Format,
+    header: &Header,
+    version: Version,
+    key: &[u8],
+    content: Option<&[u8]>,
+) -> bool
+    ensures { result ≡ (family_in_range format header.now.client header.now.seq version
+        header.now.server header.now.switch key.now
         && is_written format (content_seen content.entry)) }
 {
-    is_head(format, head, key) && is_written(format, content)
+    is_family(format, header, version, key) && is_written(format, content)
 }
 
-fn is_family_read(format: Format, head: &Head, key: &[u8], content: Option<&[u8]>) -> bool
-    ensures { result ≡ (family_in_range format head.now.client head.now.seq head.now.version
-        head.now.server head.now.switch key.now
-        && is_read_content format head.now.version (content_seen content.entry)) }
+fn is_family_read(
+    format: Format,
+    header: &Header,
+    version: Version,
+    key: &[u8],
+    content: Option<&[u8]>,
+) -> bool
+    ensures { result ≡ (family_in_range format header.now.client header.now.seq version
+        header.now.server header.now.switch key.now
+        && is_read_content format version (content_seen content.entry)) }
 {
-    is_head(format, head, key) && is_read_content(format, head.version, content)
+    is_family(format, header, version, key) && is_read_content(format, version, content)
 }
 
-fn is_versioned(format: Format, head: &Head, key: &[u8]) -> bool
-    ensures { result ≡ (family_in_range format head.now.client head.now.seq head.now.version
-        head.now.server head.now.switch key.now && nat_lt 0 head.now.version) }
+fn is_versioned(format: Format, header: &Header, version: Version, key: &[u8]) -> bool
+    ensures { result ≡ (family_in_range format header.now.client header.now.seq version
+        header.now.server header.now.switch key.now && nat_lt 0 version) }
 {
-    is_head(format, head, key) && head.version.0 > 0
+    is_family(format, header, version, key) && version.0 > 0
 }
 
-fn is_versioned_write(format: Format, head: &Head, key: &[u8], content: Option<&[u8]>) -> bool
-    ensures { result ≡ (family_in_range format head.now.client head.now.seq head.now.version
-        head.now.server head.now.switch key.now && nat_lt 0 head.now.version
+fn is_versioned_write(
+    format: Format,
+    header: &Header,
+    version: Version,
+    key: &[u8],
+    content: Option<&[u8]>,
+) -> bool
+    ensures { result ≡ (family_in_range format header.now.client header.now.seq version
+        header.now.server header.now.switch key.now && nat_lt 0 version
         && is_written format (content_seen content.entry)) }
 {
-    is_versioned(format, head, key) && is_written(format, content)
+    is_versioned(format, header, version, key) && is_written(format, content)
 }
 
 fn is_command(format: Format, number: u64, what: &What<'_>) -> bool
@@ -299,7 +244,7 @@ fn is_placed(
     is_place(format, switch, server) && is_version(version) && is_key(key)
 }
 
-fn is_copy(
+fn is_copied(
     format: Format,
     switch: SwitchId,
     server: ServerId,
@@ -332,111 +277,6 @@ fn is_announcement(epoch: u64, switch: SwitchId) -> bool
     is_positive(epoch) && is_switch(switch)
 }
 
-fn are_few(epoch: u64, total: u64, rows: Rows<'_>) -> bool
-    ensures { result ≡ (is_number epoch && is_number total
-        && nat_le (length (rows_seen rows.entry)) 12) }
-{
-    let (_epoch, _total) = (epoch, total);
-    rows.len() <= 12
-}
-
-fn is_report(epoch: u64, total: u64, rows: Rows<'_>) -> bool
-    ensures { result ≡ (is_number epoch && is_number total
-        && nat_le (length (rows_seen rows.entry)) 12
-        && list_all row_in_range (rows_seen rows.entry)
-        && are_distinct (keys_of_rows (rows_seen rows.entry))) }
-{
-    are_few(epoch, total, rows) && are_rows(rows) && are_distinct(rows)
-}
-
-fn head_of(client: ClientId, seq: Seq, version: Version, server: ServerId, switch: SwitchId) -> Head
-    ensures { result ≡ record {
-      client = client;
-      seq = seq;
-      version = version;
-      server = server;
-      switch = switch;
-    } }
-{
-    Head {
-        client,
-        seq,
-        version,
-        server,
-        switch,
-    }
-}
-
-#[tactic(auto, unfolding(peg_model::specs::Packet::in_range))]
-fn is_family_in_range(format: Format, packet: &Packet<'_>) -> bool
-    requires { is_of_family packet.now ≡ true }
-    ensures { result ≡ in_range format (seen packet.now) }
-{
-    match packet {
-        Packet::Read { client, seq, key } => is_head(format, &Head::request(*client, *seq), key),
-        Packet::Write {
-            client,
-            seq,
-            key,
-            content,
-        } => is_family_write(format, &Head::request(*client, *seq), key, *content),
-        Packet::ToServerRead {
-            client,
-            seq,
-            server,
-            switch,
-            key,
-        } => {
-            let head = head_of(*client, *seq, Version(0), *server, *switch);
-            is_head(format, &head, key)
-        }
-        Packet::ToServerWrite {
-            client,
-            seq,
-            version,
-            server,
-            switch,
-            key,
-            content,
-        } => {
-            let head = head_of(*client, *seq, *version, *server, *switch);
-            is_versioned_write(format, &head, key, *content)
-        }
-        Packet::ReadReply {
-            client,
-            seq,
-            version,
-            server,
-            switch,
-            key,
-            content,
-        } => {
-            let head = head_of(*client, *seq, *version, *server, *switch);
-            is_family_read(format, &head, key, *content)
-        }
-        Packet::WriteReply {
-            client,
-            seq,
-            version,
-            server,
-            switch,
-            key,
-        }
-        | Packet::Void {
-            client,
-            seq,
-            version,
-            server,
-            switch,
-            key,
-        } => {
-            let head = head_of(*client, *seq, *version, *server, *switch);
-            is_versioned(format, &head, key)
-        }
-        _ => false,
-    }
-}
-
 /// Whether a packet may be sent in a format: its numbers, its lengths and its rows are in the
 /// ranges of its kind.
 #[tactic(auto, unfolding(peg_model::specs::Packet::in_range))]
@@ -444,12 +284,63 @@ pub fn is_in_range(format: Format, packet: &Packet<'_>) -> bool
     ensures { result ≡ in_range format (seen packet.now) }
 {
     match packet {
-        Packet::Command { number, what } => is_command(format, *number, what),
-        Packet::CommandAck {
-            number,
-            outcome,
-            value,
-        } => is_acknowledgement(format, *number, *outcome, *value),
+        Packet::Read { client, seq, key } => {
+            is_family(format, &Header::of_request(*client, *seq), Version(0), key)
+        }
+        Packet::Write {
+            client,
+            seq,
+            key,
+            content,
+        } => {
+            let header = Header::of_request(*client, *seq);
+            is_family_write(format, &header, Version(0), key, *content)
+        }
+        Packet::ToServerRead { header, key } => is_family(format, header, Version(0), key),
+        Packet::ToServerWrite {
+            header,
+            version,
+            key,
+            content,
+        } => is_versioned_write(format, header, *version, key, *content),
+        _ => is_reply(format, packet),
+    }
+}
+
+/// The same of a packet that is no request.
+#[tactic(auto, unfolding(peg_model::specs::Packet::in_range))]
+fn is_reply(format: Format, packet: &Packet<'_>) -> bool
+    requires { 1 ≤ family_of packet.now }
+    ensures { result ≡ in_range format (seen packet.now) }
+{
+    match packet {
+        Packet::ReadReply {
+            header,
+            version,
+            key,
+            content,
+        } => is_family_read(format, header, *version, key, *content),
+        Packet::WriteReply {
+            header,
+            version,
+            key,
+        }
+        | Packet::Void {
+            header,
+            version,
+            key,
+        } => is_versioned(format, header, *version, key),
+        _ => is_copy(format, packet),
+    }
+}
+
+/// The same of a packet that is neither a request nor a reply.
+#[tactic(auto, unfolding(peg_model::specs::Packet::in_range))]
+fn is_copy(format: Format, packet: &Packet<'_>) -> bool
+    requires { 2 ≤ family_of packet.now }
+    ensures { result ≡ in_range format (seen packet.now) }
+{
+    match packet {
         Packet::CopyOrder {
             switch,
             server,
@@ -462,12 +353,35 @@ pub fn is_in_range(format: Format, packet: &Packet<'_>) -> bool
             version,
             key,
             content,
-        } => is_copy(format, *switch, *server, *version, key, *content),
+        } => is_copied(format, *switch, *server, *version, key, *content),
         Packet::Held {
             server,
             version,
             key,
         } => is_held(format, *server, *version, key),
+        Packet::Fence {
+            switch,
+            server,
+            version,
+            key,
+        } => is_placed(format, *switch, *server, *version, key),
+        _ => is_other(format, packet),
+    }
+}
+
+/// The same of a packet of no key.
+#[tactic(auto, unfolding(peg_model::specs::Packet::in_range))]
+fn is_other(format: Format, packet: &Packet<'_>) -> bool
+    requires { 3 ≤ family_of packet.now }
+    ensures { result ≡ in_range format (seen packet.now) }
+{
+    match packet {
+        Packet::Command { number, what } => is_command(format, *number, what),
+        Packet::CommandAck {
+            number,
+            outcome,
+            value,
+        } => is_acknowledgement(format, *number, *outcome, *value),
         Packet::Part {
             epoch,
             index,
@@ -477,12 +391,6 @@ pub fn is_in_range(format: Format, packet: &Packet<'_>) -> bool
         Packet::Announce { epoch, switch } => is_announcement(*epoch, *switch),
         Packet::Survey => true,
         Packet::Report { epoch, total, rows } => is_report(*epoch, *total, *rows),
-        Packet::Fence {
-            switch,
-            server,
-            version,
-            key,
-        } => is_placed(format, *switch, *server, *version, key),
-        _ => is_family_in_range(format, packet),
+        _ => unreachable!(),
     }
 }

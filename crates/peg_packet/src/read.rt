@@ -10,14 +10,14 @@ ghost use Rattle.peg_model.specs.Packet.{Void};
 ghost use Rattle.peg_model.specs.Reading.{one_at, two_at, eight_at, key_at, past_key, content_at};
 ghost use Rattle.peg_model.specs.Reading.{rows_at, candidate, packet_of};
 ghost use Rattle.peg_packet.specs.Seen.{seen};
-ghost use Rattle.peg_packet.specs.Shapes.{ReadsKind, ReadsAny, value_at, command_at};
-ghost use Rattle.peg_packet.specs.Shapes.{acknowledged_at, WhatFrom};
+ghost use Rattle.peg_packet.specs.Shapes.{ReadsKind, ReadsAny, value_at};
 
-use crate::outcomes::spelled_by;
-use crate::parts::{eight_at, head, last_key, last_pair, last_value, tail};
+use crate::codes::kinds;
+use crate::commands::{acknowledgement, command};
+use crate::parts::{eight_at, header, last_key, last_pair, last_value, tail};
 use crate::range::is_in_range;
-use crate::{Packet, Rows, What};
-use peg_name::{ClientId, Format, Seq, ServerId, SwitchId, Version};
+use crate::{Packet, Rows};
+use peg_name::{Format, ServerId, SwitchId, Version};
 
 /// Whether the fields that a client's request fixes at 0 are 0.
 fn is_request(bytes: &[u8]) -> bool
@@ -35,16 +35,14 @@ fn read(bytes: &[u8]) -> Option<Packet<'_>>
     ensures { ReadsKind bytes.now 1 (Read (two_at bytes.now 4) (eight_at bytes.now 6)
         (key_at bytes.now 24)) result }
 {
-    let Some(key) = last_key(bytes, 24) else {
-        return None;
-    };
+    let key = last_key(bytes, 24)?;
     if !is_request(bytes) {
         return None;
     }
-    let head = head(bytes);
+    let (header, _version) = header(bytes);
     Some(Packet::Read {
-        client: head.client,
-        seq: head.seq,
+        client: header.client,
+        seq: header.seq,
         key,
     })
 }
@@ -53,16 +51,14 @@ fn write(bytes: &[u8]) -> Option<Packet<'_>>
     ensures { ReadsKind bytes.now 2 (Write (two_at bytes.now 4) (eight_at bytes.now 6)
         (key_at bytes.now 24) (content_at bytes.now (past_key bytes.now 24))) result }
 {
-    let Some((key, content)) = last_pair(bytes, 24) else {
-        return None;
-    };
+    let (key, content) = last_pair(bytes, 24)?;
     if !is_request(bytes) {
         return None;
     }
-    let head = head(bytes);
+    let (header, _version) = header(bytes);
     Some(Packet::Write {
-        client: head.client,
-        seq: head.seq,
+        client: header.client,
+        seq: header.seq,
         key,
         content,
     })
@@ -72,21 +68,12 @@ fn to_server_read(bytes: &[u8]) -> Option<Packet<'_>>
     ensures { ReadsKind bytes.now 3 (ToServerRead (two_at bytes.now 4) (eight_at bytes.now 6)
         (one_at bytes.now 22) (one_at bytes.now 23) (key_at bytes.now 24)) result }
 {
-    let Some(key) = last_key(bytes, 24) else {
-        return None;
-    };
-    let version = eight_at(bytes, 14);
-    if version != 0 {
+    let key = last_key(bytes, 24)?;
+    let (header, version) = header(bytes);
+    if version.0 != 0 {
         return None;
     }
-    let head = head(bytes);
-    Some(Packet::ToServerRead {
-        client: head.client,
-        seq: head.seq,
-        server: head.server,
-        switch: head.switch,
-        key,
-    })
+    Some(Packet::ToServerRead { header, key })
 }
 
 fn to_server_write(bytes: &[u8]) -> Option<Packet<'_>>
@@ -94,16 +81,11 @@ fn to_server_write(bytes: &[u8]) -> Option<Packet<'_>>
         (eight_at bytes.now 14) (one_at bytes.now 22) (one_at bytes.now 23) (key_at bytes.now 24)
         (content_at bytes.now (past_key bytes.now 24))) result }
 {
-    let Some((key, content)) = last_pair(bytes, 24) else {
-        return None;
-    };
-    let head = head(bytes);
+    let (key, content) = last_pair(bytes, 24)?;
+    let (header, version) = header(bytes);
     Some(Packet::ToServerWrite {
-        client: head.client,
-        seq: head.seq,
-        version: head.version,
-        server: head.server,
-        switch: head.switch,
+        header,
+        version,
         key,
         content,
     })
@@ -114,16 +96,11 @@ fn read_reply(bytes: &[u8]) -> Option<Packet<'_>>
         (eight_at bytes.now 14) (one_at bytes.now 22) (one_at bytes.now 23) (key_at bytes.now 24)
         (content_at bytes.now (past_key bytes.now 24))) result }
 {
-    let Some((key, content)) = last_pair(bytes, 24) else {
-        return None;
-    };
-    let head = head(bytes);
+    let (key, content) = last_pair(bytes, 24)?;
+    let (header, version) = header(bytes);
     Some(Packet::ReadReply {
-        client: head.client,
-        seq: head.seq,
-        version: head.version,
-        server: head.server,
-        switch: head.switch,
+        header,
+        version,
         key,
         content,
     })
@@ -134,16 +111,11 @@ fn write_reply(bytes: &[u8]) -> Option<Packet<'_>>
         (eight_at bytes.now 14) (one_at bytes.now 22) (one_at bytes.now 23) (key_at bytes.now 24))
         result }
 {
-    let Some(key) = last_key(bytes, 24) else {
-        return None;
-    };
-    let head = head(bytes);
+    let key = last_key(bytes, 24)?;
+    let (header, version) = header(bytes);
     Some(Packet::WriteReply {
-        client: head.client,
-        seq: head.seq,
-        version: head.version,
-        server: head.server,
-        switch: head.switch,
+        header,
+        version,
         key,
     })
 }
@@ -153,130 +125,12 @@ fn void(bytes: &[u8]) -> Option<Packet<'_>>
         (eight_at bytes.now 14) (one_at bytes.now 22) (one_at bytes.now 23) (key_at bytes.now 24))
         result }
 {
-    let Some(key) = last_key(bytes, 24) else {
-        return None;
-    };
-    let head = head(bytes);
+    let key = last_key(bytes, 24)?;
+    let (header, version) = header(bytes);
     Some(Packet::Void {
-        client: head.client,
-        seq: head.seq,
-        version: head.version,
-        server: head.server,
-        switch: head.switch,
+        header,
+        version,
         key,
-    })
-}
-
-fn promote(bytes: &[u8]) -> Option<What<'_>>
-    requires { one_at bytes.now 12 ≡ 1 }
-    ensures { WhatFrom bytes.now result }
-{
-    let Some(key) = last_key(bytes, 13) else {
-        return None;
-    };
-    Some(What::Promote { key })
-}
-
-fn demote(bytes: &[u8]) -> Option<What<'_>>
-    requires { one_at bytes.now 12 ≡ 2 }
-    ensures { WhatFrom bytes.now result }
-{
-    let Some(key) = last_key(bytes, 13) else {
-        return None;
-    };
-    Some(What::Demote { key })
-}
-
-fn copy(bytes: &[u8]) -> Option<What<'_>>
-    requires { one_at bytes.now 12 ≡ 3 }
-    ensures { WhatFrom bytes.now result }
-{
-    let Some(key) = last_key(bytes, 14) else {
-        return None;
-    };
-    Some(What::Copy {
-        target: ServerId(bytes[13]),
-        key,
-    })
-}
-
-fn seal(bytes: &[u8]) -> Option<What<'_>>
-    requires { one_at bytes.now 12 ≡ 4 }
-    ensures { WhatFrom bytes.now result }
-{
-    if bytes.len() != 22 {
-        return None;
-    }
-    Some(What::Seal {
-        target: SwitchId(bytes[13]),
-        epoch: eight_at(bytes, 14),
-    })
-}
-
-fn clear(bytes: &[u8]) -> Option<What<'_>>
-    requires { one_at bytes.now 12 ≡ 5 }
-    ensures { WhatFrom bytes.now result }
-{
-    if bytes.len() == 13 {
-        Some(What::Clear)
-    } else {
-        None
-    }
-}
-
-fn fence_key(bytes: &[u8]) -> Option<What<'_>>
-    requires { one_at bytes.now 12 ≡ 6 }
-    ensures { WhatFrom bytes.now result }
-{
-    let Some(key) = last_key(bytes, 13) else {
-        return None;
-    };
-    Some(What::Fence { key })
-}
-
-fn what(bytes: &[u8]) -> Option<What<'_>>
-    ensures { WhatFrom bytes.now result }
-{
-    if bytes.len() < 13 {
-        return None;
-    }
-    match bytes[12] {
-        1 => promote(bytes),
-        2 => demote(bytes),
-        3 => copy(bytes),
-        4 => seal(bytes),
-        5 => clear(bytes),
-        6 => fence_key(bytes),
-        _ => None,
-    }
-}
-
-fn command(bytes: &[u8]) -> Option<Packet<'_>>
-    ensures { ReadsAny bytes.now 7 (command_at bytes.now) result }
-{
-    let Some(what) = what(bytes) else {
-        return None;
-    };
-    Some(Packet::Command {
-        number: eight_at(bytes, 4),
-        what,
-    })
-}
-
-fn acknowledgement(bytes: &[u8]) -> Option<Packet<'_>>
-    ensures { ReadsAny bytes.now 8 (acknowledged_at bytes.now) result }
-{
-    if bytes.len() != 21 {
-        return None;
-    }
-    let value = eight_at(bytes, 13);
-    let Some(_outcome) = spelled_by(bytes[12], value) else {
-        return None;
-    };
-    Some(Packet::CommandAck {
-        number: eight_at(bytes, 4),
-        outcome: bytes[12],
-        value,
     })
 }
 
@@ -284,9 +138,7 @@ fn copy_order(bytes: &[u8]) -> Option<Packet<'_>>
     ensures { ReadsKind bytes.now 9 (CopyOrder (one_at bytes.now 4) (one_at bytes.now 5)
         (one_at bytes.now 6) (key_at bytes.now 7)) result }
 {
-    let Some(key) = last_key(bytes, 7) else {
-        return None;
-    };
+    let key = last_key(bytes, 7)?;
     Some(Packet::CopyOrder {
         switch: SwitchId(bytes[4]),
         server: ServerId(bytes[5]),
@@ -300,9 +152,7 @@ fn copy_data(bytes: &[u8]) -> Option<Packet<'_>>
         (eight_at bytes.now 6) (key_at bytes.now 14)
         (content_at bytes.now (past_key bytes.now 14))) result }
 {
-    let Some((key, content)) = last_pair(bytes, 14) else {
-        return None;
-    };
+    let (key, content) = last_pair(bytes, 14)?;
     Some(Packet::CopyData {
         switch: SwitchId(bytes[4]),
         server: ServerId(bytes[5]),
@@ -316,9 +166,7 @@ fn held(bytes: &[u8]) -> Option<Packet<'_>>
     ensures { ReadsKind bytes.now 11 (Held (one_at bytes.now 4) (eight_at bytes.now 5)
         (key_at bytes.now 13)) result }
 {
-    let Some(key) = last_key(bytes, 13) else {
-        return None;
-    };
+    let key = last_key(bytes, 13)?;
     Some(Packet::Held {
         server: ServerId(bytes[4]),
         version: Version(eight_at(bytes, 5)),
@@ -330,9 +178,7 @@ fn part(bytes: &[u8]) -> Option<Packet<'_>>
     ensures { ReadsKind bytes.now 12 (Part (eight_at bytes.now 4) (one_at bytes.now 12)
         (one_at bytes.now 13) (value_at bytes.now 14)) result }
 {
-    let Some(part) = last_value(bytes, 14) else {
-        return None;
-    };
+    let part = last_value(bytes, 14)?;
     Some(Packet::Part {
         epoch: eight_at(bytes, 4),
         index: bytes[12],
@@ -372,9 +218,7 @@ fn report(bytes: &[u8]) -> Option<Packet<'_>>
         return None;
     }
     let spelled = tail(bytes, 21);
-    let Some(rows) = Rows::read(spelled, bytes[20] as usize) else {
-        return None;
-    };
+    let rows = Rows::read(spelled, bytes[20] as usize)?;
     Some(Packet::Report {
         epoch: eight_at(bytes, 4),
         total: eight_at(bytes, 12),
@@ -386,9 +230,7 @@ fn fence(bytes: &[u8]) -> Option<Packet<'_>>
     ensures { ReadsKind bytes.now 16 (Fence (one_at bytes.now 4) (one_at bytes.now 5)
         (eight_at bytes.now 6) (key_at bytes.now 14)) result }
 {
-    let Some(key) = last_key(bytes, 14) else {
-        return None;
-    };
+    let key = last_key(bytes, 14)?;
     Some(Packet::Fence {
         switch: SwitchId(bytes[4]),
         server: ServerId(bytes[5]),
@@ -403,23 +245,23 @@ fn packet(bytes: &[u8]) -> Option<Packet<'_>>
     ensures { ReadsAny bytes.now (one_at bytes.now 3) (candidate bytes.now) result }
 {
     match bytes[3] {
-        1 => read(bytes),
-        2 => write(bytes),
-        3 => to_server_read(bytes),
-        4 => to_server_write(bytes),
-        5 => read_reply(bytes),
-        6 => write_reply(bytes),
-        7 => command(bytes),
-        8 => acknowledgement(bytes),
-        9 => copy_order(bytes),
-        10 => copy_data(bytes),
-        11 => held(bytes),
-        12 => part(bytes),
-        13 => announce(bytes),
-        14 => survey(bytes),
-        15 => report(bytes),
-        16 => fence(bytes),
-        17 => void(bytes),
+        kinds::READ => read(bytes),
+        kinds::WRITE => write(bytes),
+        kinds::TO_SERVER_READ => to_server_read(bytes),
+        kinds::TO_SERVER_WRITE => to_server_write(bytes),
+        kinds::READ_REPLY => read_reply(bytes),
+        kinds::WRITE_REPLY => write_reply(bytes),
+        kinds::COMMAND => command(bytes),
+        kinds::COMMAND_ACK => acknowledgement(bytes),
+        kinds::COPY_ORDER => copy_order(bytes),
+        kinds::COPY_DATA => copy_data(bytes),
+        kinds::HELD => held(bytes),
+        kinds::PART => part(bytes),
+        kinds::ANNOUNCE => announce(bytes),
+        kinds::SURVEY => survey(bytes),
+        kinds::REPORT => report(bytes),
+        kinds::FENCE => fence(bytes),
+        kinds::VOID => void(bytes),
         _ => None,
     }
 }
@@ -435,11 +277,7 @@ fn format(bytes: &[u8]) -> Option<Format>
     if bytes.len() < 4 || bytes[0] != 0x50 || bytes[1] != 0x47 {
         return None;
     }
-    match bytes[2] {
-        1 => Some(Format::One),
-        2 => Some(Format::Two),
-        _ => None,
-    }
+    Format::of_number(u64::from(bytes[2]))
 }
 
 /// The packet that the whole of the bytes spell, with its format. There is none exactly where they
@@ -450,9 +288,7 @@ pub fn decode(bytes: &[u8]) -> Option<(Format, Packet<'_>)>
     ensures in_range { IfSome result (λ r. in_range r.0 (seen r.1) ≡ true) }
     ensures spelled { IfSome result (λ r. bytes.now ≡ spelling r.0 (seen r.1)) }
 {
-    let Some(format) = format(bytes) else {
-        return None;
-    };
+    let format = format(bytes)?;
     let Some(packet) = packet(bytes) else {
         return None;
     };

@@ -50,9 +50,7 @@ pub fn checked_row(bytes: &[u8], at: usize) -> Option<usize>
     ensures next { IfSome result (λ next. next ≡ past_key bytes.now at + 16) }
     ensures none { IfNone result (¬ IsRowAt bytes.now at) }
 {
-    let Some((key, next)) = key_from(bytes, at) else {
-        return None;
-    };
+    let (key, next) = key_from(bytes, at)?;
     if bytes.len() - next < 16 {
         return None;
     }

@@ -79,9 +79,7 @@ impl<'a> Rows<'a> {
         let mut at = 0;
         let mut left = count;
         while left > 0 {
-            let Some(next) = checked_row(bytes, at) else {
-                return None;
-            };
+            let next = checked_row(bytes, at)?;
             at = next;
             left -= 1;
         }

@@ -9,15 +9,16 @@ ghost use Rattle.peg_model.specs.Packet.{Command, CommandAck, CopyOrder, CopyDat
 ghost use Rattle.peg_model.specs.Packet.{Announce, Report, Fence};
 ghost use Rattle.peg_model.specs.Reading.{packet_of};
 ghost use Rattle.peg_packet.specs.Puts.{Puts};
-ghost use Rattle.peg_packet.specs.Family.{is_of_family};
+ghost use Rattle.peg_packet.specs.Family.{family_of};
 ghost use Rattle.peg_grammar.specs.Fits.{FitsKey, FitsContent, FitsWhat};
 ghost use Rattle.peg_packet.specs.Seen.{seen, content_seen, what_seen, outcome_seen, rows_seen};
 
+use crate::codes::kinds;
 use crate::puts::{
     MOST, put_begin, put_byte, put_content, put_eight, put_family, put_key, put_server, put_slice,
     put_switch, put_value, put_version, put_what,
 };
-use crate::{Head, Packet, Rows, What};
+use crate::{Header, Packet, Rows, What};
 use peg_name::{Format, ServerId, SwitchId, Version};
 
 /// A packet of a kind between clients and servers that has a content.
@@ -25,17 +26,18 @@ fn put_with_content(
     out: &mut [u8; MOST],
     format: Format,
     kind: u8,
-    head: &Head,
+    header: &Header,
+    version: Version,
     key: &[u8],
     content: Option<&[u8]>,
 ) -> usize
     requires key { FitsKey key.now }
     requires content { FitsContent (content_seen content) }
-    ensures { Puts out.old out.new 0 result (family format kind head.now.client head.now.seq
-        head.now.version head.now.server head.now.switch key.now
+    ensures { Puts out.old out.new 0 result (family format kind header.now.client header.now.seq
+        version header.now.server header.now.switch key.now
         ++ content_bytes (content_seen content.entry)) }
 {
-    let at = put_family(out, format, kind, head, key);
+    let at = put_family(out, format, kind, header, version, key);
     put_content(out, at, content)
 }
 
@@ -45,7 +47,7 @@ fn put_command(out: &mut [u8; MOST], format: Format, number: u64, what: &What<'_
     ensures { Puts out.old out.new 0 result
         (spelling format (Command number (what_seen what.now))) }
 {
-    let at = put_begin(out, format, 7);
+    let at = put_begin(out, format, kinds::COMMAND);
     let at = put_eight(out, at, number);
     put_what(out, at, what)
 }
@@ -60,7 +62,7 @@ fn put_acknowledgement(
     ensures { Puts out.old out.new 0 result
         (begin format 8 ++ eight number ++ outcome ∷ eight value) }
 {
-    let at = put_begin(out, format, 8);
+    let at = put_begin(out, format, kinds::COMMAND_ACK);
     let at = put_eight(out, at, number);
     let at = put_byte(out, at, outcome);
     put_eight(out, at, value)
@@ -79,7 +81,7 @@ fn put_copy_order(
     ensures { Puts out.old out.new 0 result
         (spelling format (CopyOrder switch server target key.now)) }
 {
-    let at = put_begin(out, format, 9);
+    let at = put_begin(out, format, kinds::COPY_ORDER);
     let at = put_switch(out, at, switch);
     let at = put_server(out, at, server);
     let at = put_server(out, at, target);
@@ -118,7 +120,7 @@ fn put_held(
     requires { FitsKey key.now }
     ensures { Puts out.old out.new 0 result (spelling format (Held server version key.now)) }
 {
-    let at = put_begin(out, format, 11);
+    let at = put_begin(out, format, kinds::HELD);
     let at = put_server(out, at, server);
     let at = put_version(out, at, version);
     put_key(out, at, key)
@@ -136,7 +138,7 @@ fn put_part(
     requires { length bytes.now ≤ 512 }
     ensures { Puts out.old out.new 0 result (spelling format (Part epoch index count bytes.now)) }
 {
-    let at = put_begin(out, format, 12);
+    let at = put_begin(out, format, kinds::PART);
     let at = put_eight(out, at, epoch);
     let at = put_byte(out, at, index);
     let at = put_byte(out, at, count);
@@ -147,7 +149,7 @@ fn put_part(
 fn put_announce(out: &mut [u8; MOST], format: Format, epoch: u64, switch: SwitchId) -> usize
     ensures { Puts out.old out.new 0 result (spelling format (Announce epoch switch)) }
 {
-    let at = put_begin(out, format, 13);
+    let at = put_begin(out, format, kinds::ANNOUNCE);
     let at = put_eight(out, at, epoch);
     put_switch(out, at, switch)
 }
@@ -159,117 +161,11 @@ fn put_report(out: &mut [u8; MOST], format: Format, epoch: u64, total: u64, rows
     ensures { Puts out.old out.new 0 result
         (spelling format (Report epoch total (rows_seen rows.entry))) }
 {
-    let at = put_begin(out, format, 15);
+    let at = put_begin(out, format, kinds::REPORT);
     let at = put_eight(out, at, epoch);
     let at = put_eight(out, at, total);
     let at = put_byte(out, at, rows.len() as u8);
     put_slice(out, at, rows.bytes())
-}
-
-/// A packet of a kind between clients and servers, at the front of the buffer.
-fn put_of_family(out: &mut [u8; MOST], format: Format, packet: &Packet<'_>) -> usize
-    requires family { is_of_family packet.now ≡ true }
-    requires in_range { in_range format (seen packet.now) ≡ true }
-    ensures { Puts out.old out.new 0 result (spelling format (seen packet.now)) }
-{
-    match packet {
-        Packet::Read { client, seq, key } => {
-            put_family(out, format, 1, &Head::request(*client, *seq), key)
-        }
-        Packet::Write {
-            client,
-            seq,
-            key,
-            content,
-        } => { put_with_content(out, format, 2, &Head::request(*client, *seq), key, *content) }
-        Packet::ToServerRead {
-            client,
-            seq,
-            server,
-            switch,
-            key,
-        } => {
-            let head = Head {
-                client: *client,
-                seq: *seq,
-                version: Version(0),
-                server: *server,
-                switch: *switch,
-            };
-            put_family(out, format, 3, &head, key)
-        }
-        Packet::ToServerWrite {
-            client,
-            seq,
-            version,
-            server,
-            switch,
-            key,
-            content,
-        } => {
-            let head = Head {
-                client: *client,
-                seq: *seq,
-                version: *version,
-                server: *server,
-                switch: *switch,
-            };
-            put_with_content(out, format, 4, &head, key, *content)
-        }
-        Packet::ReadReply {
-            client,
-            seq,
-            version,
-            server,
-            switch,
-            key,
-            content,
-        } => {
-            let head = Head {
-                client: *client,
-                seq: *seq,
-                version: *version,
-                server: *server,
-                switch: *switch,
-            };
-            put_with_content(out, format, 5, &head, key, *content)
-        }
-        Packet::WriteReply {
-            client,
-            seq,
-            version,
-            server,
-            switch,
-            key,
-        } => {
-            let head = Head {
-                client: *client,
-                seq: *seq,
-                version: *version,
-                server: *server,
-                switch: *switch,
-            };
-            put_family(out, format, 6, &head, key)
-        }
-        Packet::Void {
-            client,
-            seq,
-            version,
-            server,
-            switch,
-            key,
-        } => {
-            let head = Head {
-                client: *client,
-                seq: *seq,
-                version: *version,
-                server: *server,
-                switch: *switch,
-            };
-            put_family(out, format, 17, &head, key)
-        }
-        _ => unreachable!(),
-    }
 }
 
 /// The packet at the front of the buffer.
@@ -278,12 +174,85 @@ fn put(out: &mut [u8; MOST], format: Format, packet: &Packet<'_>) -> usize
     ensures { Puts out.old out.new 0 result (spelling format (seen packet.now)) }
 {
     match packet {
-        Packet::Command { number, what } => put_command(out, format, *number, what),
-        Packet::CommandAck {
-            number,
-            outcome,
-            value,
-        } => { put_acknowledgement(out, format, *number, *outcome, *value) }
+        Packet::Read { client, seq, key } => {
+            let header = Header::of_request(*client, *seq);
+            put_family(out, format, kinds::READ, &header, Version(0), key)
+        }
+        Packet::Write {
+            client,
+            seq,
+            key,
+            content,
+        } => {
+            let header = Header::of_request(*client, *seq);
+            put_with_content(
+                out,
+                format,
+                kinds::WRITE,
+                &header,
+                Version(0),
+                key,
+                *content,
+            )
+        }
+        Packet::ToServerRead { header, key } => {
+            put_family(out, format, kinds::TO_SERVER_READ, header, Version(0), key)
+        }
+        Packet::ToServerWrite {
+            header,
+            version,
+            key,
+            content,
+        } => {
+            let kind = kinds::TO_SERVER_WRITE;
+            put_with_content(out, format, kind, header, *version, key, *content)
+        }
+        _ => put_reply(out, format, packet),
+    }
+}
+
+/// A packet that is no request.
+fn put_reply(out: &mut [u8; MOST], format: Format, packet: &Packet<'_>) -> usize
+    requires family { 1 ≤ family_of packet.now }
+    requires in_range { in_range format (seen packet.now) ≡ true }
+    ensures { Puts out.old out.new 0 result (spelling format (seen packet.now)) }
+{
+    match packet {
+        Packet::ReadReply {
+            header,
+            version,
+            key,
+            content,
+        } => put_with_content(
+            out,
+            format,
+            kinds::READ_REPLY,
+            header,
+            *version,
+            key,
+            *content,
+        ),
+        Packet::WriteReply {
+            header,
+            version,
+            key,
+        } => put_family(out, format, kinds::WRITE_REPLY, header, *version, key),
+        Packet::Void {
+            header,
+            version,
+            key,
+        } => put_family(out, format, kinds::VOID, header, *version, key),
+        _ => put_copy(out, format, packet),
+    }
+}
+
+/// A packet that is neither a request nor a reply.
+fn put_copy(out: &mut [u8; MOST], format: Format, packet: &Packet<'_>) -> usize
+    requires family { 2 ≤ family_of packet.now }
+    requires in_range { in_range format (seen packet.now) ≡ true }
+    ensures { Puts out.old out.new 0 result (spelling format (seen packet.now)) }
+{
+    match packet {
         Packet::CopyOrder {
             switch,
             server,
@@ -297,7 +266,15 @@ fn put(out: &mut [u8; MOST], format: Format, packet: &Packet<'_>) -> usize
             key,
             content,
         } => {
-            let at = put_at_version(out, format, 10, *switch, *server, *version, key);
+            let at = put_at_version(
+                out,
+                format,
+                kinds::COPY_DATA,
+                *switch,
+                *server,
+                *version,
+                key,
+            );
             put_content(out, at, *content)
         }
         Packet::Held {
@@ -305,6 +282,29 @@ fn put(out: &mut [u8; MOST], format: Format, packet: &Packet<'_>) -> usize
             version,
             key,
         } => put_held(out, format, *server, *version, key),
+        Packet::Fence {
+            switch,
+            server,
+            version,
+            key,
+        } => { put_at_version(out, format, kinds::FENCE, *switch, *server, *version, key) }
+        _ => put_other(out, format, packet),
+    }
+}
+
+/// A packet of no key.
+fn put_other(out: &mut [u8; MOST], format: Format, packet: &Packet<'_>) -> usize
+    requires family { 3 ≤ family_of packet.now }
+    requires in_range { in_range format (seen packet.now) ≡ true }
+    ensures { Puts out.old out.new 0 result (spelling format (seen packet.now)) }
+{
+    match packet {
+        Packet::Command { number, what } => put_command(out, format, *number, what),
+        Packet::CommandAck {
+            number,
+            outcome,
+            value,
+        } => { put_acknowledgement(out, format, *number, *outcome, *value) }
         Packet::Part {
             epoch,
             index,
@@ -312,15 +312,9 @@ fn put(out: &mut [u8; MOST], format: Format, packet: &Packet<'_>) -> usize
             bytes,
         } => { put_part(out, format, *epoch, *index, *count, bytes) }
         Packet::Announce { epoch, switch } => put_announce(out, format, *epoch, *switch),
-        Packet::Survey => put_begin(out, format, 14),
+        Packet::Survey => put_begin(out, format, kinds::SURVEY),
         Packet::Report { epoch, total, rows } => put_report(out, format, *epoch, *total, *rows),
-        Packet::Fence {
-            switch,
-            server,
-            version,
-            key,
-        } => { put_at_version(out, format, 16, *switch, *server, *version, key) }
-        _ => put_of_family(out, format, packet),
+        _ => unreachable!(),
     }
 }
 

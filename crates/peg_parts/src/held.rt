@@ -114,7 +114,7 @@ pub fn join(out: &mut Vec<u8>, parts: &[Option<PartBytes>], index: u8, bytes: &[
     requires room { 512 * length parts.now ≤ vec_capacity out.old }
     ensures items { out.new.items
         ≡ flat_map (λ part. unwrap_or part []) (slice_set parts.now index (Some bytes.now)) }
-    ensures room { vec_capacity out.new ≡ vec_capacity out.old }
+    ensures room { vec_capacity out.old ≤ vec_capacity out.new }
 {
     out.clear();
     for place in 0..parts.len() {

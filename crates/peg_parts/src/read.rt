@@ -36,6 +36,9 @@ fn eight_at(bytes: &[u8], at: usize) -> u64
     requires { at < 2 ^ 32 }
     ensures { result ≡ eight_at bytes.now at }
 {
+    if let Some(eight) = from(bytes, at).first_chunk() {
+        return u64::from_be_bytes(*eight);
+    }
     u64::from_be_bytes([
         byte_at(bytes, at),
         byte_at(bytes, at + 1),

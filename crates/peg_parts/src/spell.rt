@@ -18,17 +18,15 @@ use peg_stamp::Stamper;
 pub fn put(out: &mut Vec<u8>, bytes: &[u8])
     requires { length out.old.items + length bytes.now ≤ vec_capacity out.old }
     ensures items { out.new.items ≡ out.old.items ++ bytes.now }
-    ensures room { vec_capacity out.new ≡ vec_capacity out.old }
+    ensures room { vec_capacity out.old ≤ vec_capacity out.new }
 {
-    for byte in bytes {
-        out.push_reserved(*byte);
-    }
+    out.extend_from_slice(bytes).unwrap();
 }
 
 fn put_eight(out: &mut Vec<u8>, number: u64)
     requires { length out.old.items + 8 ≤ vec_capacity out.old }
     ensures items { out.new.items ≡ out.old.items ++ eight number }
-    ensures room { vec_capacity out.new ≡ vec_capacity out.old }
+    ensures room { vec_capacity out.old ≤ vec_capacity out.new }
 {
     put(out, &number.to_be_bytes());
 }
@@ -36,7 +34,7 @@ fn put_eight(out: &mut Vec<u8>, number: u64)
 fn put_seq(out: &mut Vec<u8>, seq: Seq)
     requires { length out.old.items + 8 ≤ vec_capacity out.old }
     ensures items { out.new.items ≡ out.old.items ++ eight seq }
-    ensures room { vec_capacity out.new ≡ vec_capacity out.old }
+    ensures room { vec_capacity out.old ≤ vec_capacity out.new }
     ensures number { is_number seq ≡ true }
 {
     prove!(seq.0 <= u64::MAX);
@@ -46,7 +44,7 @@ fn put_seq(out: &mut Vec<u8>, seq: Seq)
 fn put_version(out: &mut Vec<u8>, version: Version)
     requires { length out.old.items + 8 ≤ vec_capacity out.old }
     ensures items { out.new.items ≡ out.old.items ++ eight version }
-    ensures room { vec_capacity out.new ≡ vec_capacity out.old }
+    ensures room { vec_capacity out.old ≤ vec_capacity out.new }
     ensures number { is_number version ≡ true }
 {
     prove!(version.0 <= u64::MAX);
@@ -56,7 +54,7 @@ fn put_version(out: &mut Vec<u8>, version: Version)
 fn put_mark(out: &mut Vec<u8>, mark: Option<Version>)
     requires { length out.old.items + 8 ≤ vec_capacity out.old }
     ensures items { out.new.items ≡ out.old.items ++ eight (unwrap_or mark 0) }
-    ensures room { vec_capacity out.new ≡ vec_capacity out.old }
+    ensures room { vec_capacity out.old ≤ vec_capacity out.new }
 {
     match mark {
         Some(version) => put_version(out, version),
@@ -67,7 +65,7 @@ fn put_mark(out: &mut Vec<u8>, mark: Option<Version>)
 fn put_key(out: &mut Vec<u8>, key: &Key)
     requires { length out.old.items + 33 ≤ vec_capacity out.old }
     ensures items { out.new.items ≡ out.old.items ++ key_bytes key.now }
-    ensures room { vec_capacity out.new ≡ vec_capacity out.old }
+    ensures room { vec_capacity out.old ≤ vec_capacity out.new }
     ensures short { length key.now ≤ 32 }
 {
     let bytes = key.bytes();
@@ -79,7 +77,7 @@ fn put_key(out: &mut Vec<u8>, key: &Key)
 fn put_row(out: &mut Vec<u8>, seq: Seq, version: Version)
     requires { length out.old.items + 16 ≤ vec_capacity out.old }
     ensures items { out.new.items ≡ out.old.items ++ stamp_bytes (seq, version) }
-    ensures room { vec_capacity out.new ≡ vec_capacity out.old }
+    ensures room { vec_capacity out.old ≤ vec_capacity out.new }
     ensures short { length out.new.items ≡ length out.old.items + 16 }
     ensures numbers { is_stamp_row (seq, version) ≡ true }
 {
@@ -92,7 +90,7 @@ fn put_rows(out: &mut Vec<u8>, stamper: &Stamper, clients: u16)
     requires clients { length stamper.now.rows ≡ clients }
     requires room { length out.old.items + 16 * clients ≤ vec_capacity out.old }
     ensures items { out.new.items ≡ out.old.items ++ flat_map stamp_bytes stamper.now.rows }
-    ensures room { vec_capacity out.new ≡ vec_capacity out.old }
+    ensures room { vec_capacity out.old ≤ vec_capacity out.new }
     ensures long { length out.new.items ≡ length out.old.items + 16 * clients }
     ensures numbers { list_all is_stamp_row stamper.now.rows ≡ true }
 {
@@ -119,7 +117,7 @@ fn bits(holders: &Holders) -> u64
 fn put_holders(out: &mut Vec<u8>, format: Format, holders: &Holders)
     requires { length out.old.items + 8 ≤ vec_capacity out.old }
     ensures items { out.new.items ≡ out.old.items ++ holder_bytes format (bits_of holders.now) }
-    ensures room { vec_capacity out.new ≡ vec_capacity out.old }
+    ensures room { vec_capacity out.old ≤ vec_capacity out.new }
     ensures rising { is_rising holders.now ≡ true }
 {
     let bytes = bits(holders).to_be_bytes();
@@ -133,7 +131,7 @@ fn put_holders(out: &mut Vec<u8>, format: Format, holders: &Holders)
 fn put_entry(out: &mut Vec<u8>, format: Format, key: &Key, entry: &Listing)
     requires { length out.old.items + 73 ≤ vec_capacity out.old }
     ensures items { out.new.items ≡ out.old.items ++ entry_bytes format (key.now, entry.now) }
-    ensures room { vec_capacity out.new ≡ vec_capacity out.old }
+    ensures room { vec_capacity out.old ≤ vec_capacity out.new }
     ensures short { length out.new.items ≤ length out.old.items + 73 }
     ensures rising { is_rising entry.now.holders ≡ true }
 {
@@ -150,7 +148,7 @@ fn put_entries(out: &mut Vec<u8>, format: Format, directory: &Directory)
     requires { length out.old.items + 73 * length directory.now.entries ≤ vec_capacity out.old }
     ensures items { out.new.items
         ≡ out.old.items ++ flat_map (entry_bytes format) directory.now.entries }
-    ensures room { vec_capacity out.new ≡ vec_capacity out.old }
+    ensures room { vec_capacity out.old ≤ vec_capacity out.new }
     ensures rising { list_all (λ item. is_rising item.1.holders) directory.now.entries ≡ true }
 {
     for place in 0..directory.len() {
@@ -164,7 +162,7 @@ fn put_entries(out: &mut Vec<u8>, format: Format, directory: &Directory)
 fn put_numbers(out: &mut Vec<u8>, next: Version, last: u64, clients: u16)
     requires { length out.old.items + 18 ≤ vec_capacity out.old }
     ensures items { out.new.items ≡ out.old.items ++ (eight next ++ eight last ++ two clients) }
-    ensures room { vec_capacity out.new ≡ vec_capacity out.old }
+    ensures room { vec_capacity out.old ≤ vec_capacity out.new }
     ensures next { is_number next ≡ true }
     ensures last { is_number last ≡ true }
 {
@@ -179,7 +177,7 @@ pub fn spell(out: &mut Vec<u8>, stamper: &Stamper, directory: &Directory, last: 
     requires clients { length stamper.now.rows ≡ directory.now.rack.clients }
     requires last { 1 ≤ last }
     requires room { room_of directory.now.rack ≤ vec_capacity out.old }
-    ensures room { vec_capacity out.new ≡ vec_capacity out.old }
+    ensures room { vec_capacity out.old ≤ vec_capacity out.new }
     ensures limits { InLimits directory.now.rack }
     ensures spelled { SpellsState directory.now.rack out.new.items
         (state_with stamper.now last directory.now.entries) }

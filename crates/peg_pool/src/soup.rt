@@ -58,15 +58,11 @@ impl Soup {
     pub fn make(alloc: Global, format: Format) -> Soup
         ensures { result ≡ record { format = format; items = []; spare = 0 } }
     {
-        let size = match format {
-            Format::One => 640,
-            Format::Two => 1152,
-        };
         Soup {
             format,
             rows: Vec::new(alloc),
             short: SlotPool::make(alloc, SHORT),
-            long: SlotPool::make(alloc, size),
+            long: SlotPool::make(alloc, format.most_of_packet()),
         }
     }
 

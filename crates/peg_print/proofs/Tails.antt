@@ -1,6 +1,6 @@
 -- The texts behind the event lines, an item at a time.
-use Rattle.std.proofs.Common.{◌≡◌, ◌<◌, ◌+◌, ℕ, suc, List, [], ◌∷◌, ◌++◌, length, get_or, drop}
-use Rattle.std.proofs.Common.{flat_map, map, Some, None, slice_get, codes, decimal, refl, sym, ap}
+use Rattle.std.proofs.Common.{◌≡◌, ◌<◌, ◌+◌, ℕ, suc, List, ◌∷◌, ◌++◌, length, get_or, drop}
+use Rattle.std.proofs.Common.{flat_map, map, Some, None, slice_get, codes, decimal, sym, ap}
 use Rattle.std.proofs.Common.{◌∙◌, arith, drop-cons}
 use Rattle.std.proofs.Common.{append_assoc}
 use Rattle.std.proofs.lemmas.Option.{get_or_from_slice_get, slice_get_within}
@@ -10,9 +10,7 @@ use Rattle.peg_event.specs.declared.Line.{Line}
 use Rattle.peg_model.specs.Schedule.{fed}
 use Rattle.peg_model.specs.Trace.{ops_text, op_text, line_text, said_text, key_order_text}
 use Rattle.peg_history.specs.declared.KeyOrder.{KeyOrder}
-use Rattle.peg_history.specs.Groups.{key_orders, order_in_book}
-use Rattle.peg_model.specs.World.{World, history}
-use Rattle.peg_model.specs.Order.{orders, order_of, keys_in}
+use Rattle.peg_model.specs.Order.{orders}
 use Rattle.peg_print.specs.Tail.{key_order}
 
 -- the items from a place on

@@ -17,9 +17,9 @@ use Rattle.peg_text.specs.declared.event.Entry.TheVariants as entry
 use Rattle.peg_text.specs.EntryLine.{IsEntryLine}
 use Rattle.peg_meaning.specs.Session as session
 use Rattle.peg_meaning.specs.Session.{Answer, IsOnly}
-use Rattle.peg_meaning.specs.ReplayWord.{ReplayWord, ReplayEntry, Named, Happens, Ends, Ran}
+use Rattle.peg_meaning.specs.ReplayWord.{ReplayWord, ReplayEntry, Named, Happens, Ends}
 use Rattle.peg_meaning.specs.ReplayWord.{Starting, Running, Finished, IsReplayLine, replays, says}
-use Rattle.peg_meaning.specs.ReplayWord.{replay_on, started, stepped, is_past, end_text}
+use Rattle.peg_meaning.specs.ReplayWord.{replay_on, stepped, is_past, end_text}
 use Rattle.peg_replay.specs.Playing.{ran_of, word_at, SaysLine, InRack}
 
 -- ---- the limits

@@ -4,21 +4,22 @@
 
 ghost use Rattle.std.specs.Prelude.{◌≡◌, ℕ, ◌<◌, ◌≤◌, ◌-◌, ◌%◌, [], length, true, false, IfOk};
 ghost use Rattle.std.specs.Prelude.{Some, slice_get, slice_index};
-ghost use Rattle.peg_name.specs.Name.{home_of};
+ghost use Rattle.peg_name.specs.Name.{home_of, parts_most};
 ghost use Rattle.peg_model.specs.Packet.{are_distinct};
 ghost use Rattle.peg_model.specs.Rules.{Core as TheCore, request, read_request, write_request};
 ghost use Rattle.peg_model.specs.Rules.{on_report, on_void, promote, demote, copy_source};
 ghost use Rattle.peg_model.specs.Rules.{fence_of, to_server, server_of_read, entry_of, base_of};
 ghost use Rattle.peg_directory.specs.Table.{Table, with_entries};
+ghost use Rattle.peg_parts.specs.Taking.{take_part, stamps_after, entries_after};
 ghost use Rattle.peg_rules.specs.Started.{started, listed_at_start};
 ghost use Rattle.peg_rules.specs.Going.{GoesTo, ComesFrom, FencesAt, OfLast};
 
 use peg_directory::Directory;
 use peg_name::{ClientId, Config, Holders, Key, Seq, ServerId, Version, home};
+use peg_parts::{Collector, Taken};
 use peg_stamp::{Stamp, Stamper};
 use std::alloc::Global;
 use std::marker::Model;
-use std::mem;
 
 #[cfg(test)]
 mod tests;
@@ -86,25 +87,36 @@ impl Core {
         &self.directory
     }
 
-    /// Takes the other stamps and the other directory, as a handover brings them, and leaves its
-    /// own in their place. They are of the same rack.
-    pub fn swap(&mut self, stamper: &mut Stamper, directory: &mut Directory)
-        requires rows { length stamper.old.rows ≡ self.old.rack.clients }
-        requires rack { directory.old.rack ≡ self.old.rack }
-        ensures core { self.new ≡ record self.old {
-          stamps = stamper.old;
-          entries = directory.old.entries;
+    /// Takes in a part of a state that is handed over, for a switch that is in the epoch `own`, as
+    /// the collector does. With the last one the stamps and the entries are those of the state.
+    pub fn take_part(
+        &mut self,
+        collector: &mut Collector,
+        own: u64,
+        epoch: u64,
+        index: u8,
+        count: u8,
+        bytes: &[u8],
+    ) -> Taken
+        requires rack { collector.old.rack ≡ self.old.rack }
+        requires index { index < count }
+        requires few { count ≤ parts_most self.old.rack.format }
+        requires short { length bytes.now ≤ 512 }
+        ensures answer { result ≡ (take_part self.old.rack own collector.old.collected epoch index
+            count bytes.now).answer }
+        ensures collected { collector.new ≡ record collector.old {
+          collected = (take_part self.old.rack own collector.old.collected epoch index count
+              bytes.now).collected;
         } }
-        ensures rack { self.new.rack ≡ self.old.rack }
-        ensures stamps { stamper.new ≡ self.old.stamps }
-        ensures clients { length stamper.new.rows ≡ self.old.rack.clients }
-        ensures entries { directory.new ≡ record {
-          rack = self.old.rack;
-          entries = self.old.entries;
+        ensures after { self.new ≡ record self.old {
+          stamps = stamps_after self.old.stamps (take_part self.old.rack own
+              collector.old.collected epoch index count bytes.now).state;
+          entries = entries_after self.old.entries (take_part self.old.rack own
+              collector.old.collected epoch index count bytes.now).state;
         } }
     {
-        mem::swap(&mut self.stamper, stamper);
-        mem::swap(&mut self.directory, directory);
+        let (stamper, directory) = (&mut self.stamper, &mut self.directory);
+        collector.take(own, epoch, index, count, bytes, stamper, directory)
     }
 }
 

@@ -1,5 +1,6 @@
 use crate::*;
 use peg_name::{ClientId, Config, Key, Seq, ServerId, Version};
+use peg_parts::Parts;
 use std::test::Fail;
 
 #[test]
@@ -107,16 +108,17 @@ fn the_last_version_is_given_to_nobody(rt: HostRuntime) -> Result<(), Fail> {
 #[test]
 fn a_handover_brings_stamps_and_entries(rt: HostRuntime) -> Result<(), Fail> {
     let config = Config::make(1, 3, 2, 2, 2, 4, 1)?;
-    let k = Key::read(b"k")?;
-    let keys = [k];
+    let keys = [Key::read(b"k")?];
     let mut core = Core::make(rt.alloc(), &config, &keys)?;
-    let mut stamper = Stamper::make(rt.alloc(), &config)?;
-    let mut directory = Directory::make(rt.alloc(), &config)?;
-    stamper.set_next(Version(9));
-    core.swap(&mut stamper, &mut directory);
-    assert_eq!(rt; core.stamper().next(), Version(9));
+    let stamper = Stamper::make(rt.alloc(), &config)?;
+    let directory = Directory::make(rt.alloc(), &config)?;
+    let mut sealed = Parts::make(rt.alloc(), &config)?;
+    sealed.seal(&stamper, &directory, 7);
+    let mut collector = Collector::make(rt.alloc(), &config)?;
+    let part = sealed.part(0);
+    assert!(rt; part.len() <= 512);
+    let taken = core.take_part(&mut collector, 0, 2, 0, 1, part);
+    assert_eq!(rt; taken, Taken::Whole { last: 7 });
     assert!(rt; core.directory().is_empty());
-    assert_eq!(rt; stamper.next(), Version(1));
-    assert_eq!(rt; directory.len(), 1);
     Ok(())
 }

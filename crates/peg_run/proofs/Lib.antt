@@ -7,3 +7,4 @@ mod Answered
 mod Headline
 mod Limits
 mod Replayed
+pub mod Verdicts

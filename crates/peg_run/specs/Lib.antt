@@ -2,3 +2,4 @@ pub mod Front
 pub mod Status
 pub mod Ends
 pub mod Forced
+pub mod Verdicts

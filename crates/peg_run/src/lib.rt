@@ -4,17 +4,22 @@
 ghost use Rattle.std.specs.Prelude.{◌≡◌, ◌≢◌, ◌⊎◌, ℕ, None, Some};
 ghost use Rattle.peg_model.specs.Trace.{RunText};
 ghost use Rattle.peg_io.specs.Outside.{Rose, Tells};
+ghost use Rattle.peg_meaning.specs.CheckWord.{judges, check_start};
 ghost use Rattle.peg_session.specs.Alike.{WhereTold};
+ghost use Rattle.peg_session.specs.Ends.{told};
+ghost use Rattle.peg_run.specs.Verdicts.{EndsAs, IsVerdict};
 ghost use Rattle.peg_run.specs.Status.{code_of, status_text, status_of};
 ghost use Rattle.peg_run.specs.Front.{HasSchedule};
 ghost use Rattle.peg_run.specs.Ends.{job_in, IsDone, IsBadAt, IsTooMuchAt, IsUnread, IsCut};
 ghost use Rattle.peg_run.specs.Ends.{IsAhead, ShowsRegisters, Ended, HasCause};
 
 use peg_io::{Sink, Source, Wire};
+use peg_judge::check;
 use peg_law::prints_register_histories;
 use peg_replay::replay;
 use peg_session::End;
 use peg_trace::shows_each_operation;
+use peg_word_law::judges_histories;
 use peg_words::{Job, WordFault, read_words};
 use std::alloc::Global;
 use std::fmt;
@@ -104,8 +109,25 @@ fn replay_schedule<S: Source, K: Sink>(alloc: Global, source: &mut S, sink: &mut
     status_of(replay(alloc, source, sink))
 }
 
-/// Carries out the words of a command. There is one, `replay`, which reads a schedule line by line
-/// and writes its trace, its history and the order of each key. It takes every line of the grammar.
+// The text of a verdict is that of the history in the lines.
+fn judge_history<S: Source, K: Sink>(alloc: Global, source: &mut S, sink: &mut K) -> Status
+    ensures ended { EndsAs judges check_start result
+        (told (S.left source.old) (K.held sink.old) None 0)
+        (told (S.left source.new) (K.held sink.new) None 0) }
+    ensures verdict { result ≡ Status.Done → IsVerdict (S.left source.old) (S.left source.new)
+        (K.held sink.old) (K.held sink.new) }
+    ensures cause { HasCause result (S.faults source.old) (S.faults source.new)
+        (K.faults sink.old) (K.faults sink.new) }
+    ensures no_usage { result ≢ Status.Usage }
+    ensures no_wire_fault { result ≢ Status.WireFault }
+{
+    judges_histories();
+    status_of(check(alloc, source, sink))
+}
+
+/// Carries out the words of a command. `replay` reads a schedule line by line and writes its trace,
+/// its history and the order of each key. It takes every line of the grammar. `check` reads a
+/// history and the orders of its keys, or a whole trace, and writes the verdict on them.
 ///
 /// Whoever reads an order that it prints holds a register history in the hand: so the clause
 /// `linearizable` says, by the definitions of the register alone. It asks of the sink that it tells
@@ -116,7 +138,7 @@ fn replay_schedule<S: Source, K: Sink>(alloc: Global, source: &mut S, sink: &mut
 /// failed; `OutOfMemory` where there was none for what is kept. Before the source is asked for
 /// more, and before each answer, the text of the lines so far is written; at `WriteFault` and
 /// `OutOfMemory` maybe only a first part of it.
-#[tactic(auto, using(crate::proofs::Answered::text_told, crate::proofs::Headline::histories_told))]
+#[tactic(auto, using(crate::proofs::Answered::text_told, crate::proofs::Headline::histories_told, crate::proofs::Verdicts::begins_not))]
 pub fn run<S: Source, K: Sink, W: Wire>(
     alloc: Global,
     words: &[String],
@@ -142,34 +164,37 @@ pub fn run<S: Source, K: Sink, W: Wire>(
     // A fault of the sink is answered only where its count rose.
     ensures write_fault { result ≡ Status.WriteFault
         → Rose (K.faults sink.old) (K.faults sink.new) }
+    // Of `replay`.
     // Done: the text of the run of the schedule that the input begins with was appended.
-    ensures text { result ≡ Status.Done
+    ensures text { job_in words.now ≡ Some Job.Replay → result ≡ Status.Done
         → WhereTold (S.left source.old) (S.left source.new) (K.held sink.old) (K.held sink.new)
         RunText }
     // Done: clients saw one plain register for each key, whatever the source tells.
-    ensures linearizable { result ≡ Status.Done
+    ensures linearizable { job_in words.now ≡ Some Job.Replay → result ≡ Status.Done
         → Tells (K.held sink.old) (K.held sink.new) ShowsRegisters }
     // Done: the input was read to the line end, and the limits were kept.
-    ensures done { result ≡ Status.Done
+    ensures done { job_in words.now ≡ Some Job.Replay → result ≡ Status.Done
         → IsDone (S.left source.old) (S.left source.new) (K.held sink.old) (K.held sink.new) }
     // The first line at fault is named, and the text of the lines before it was appended.
-    ensures bad_input { (line : ℕ) → result ≡ Status.BadInput line
+    ensures bad_input { (line : ℕ) → job_in words.now ≡ Some Job.Replay
+        → result ≡ Status.BadInput line
         → IsBadAt line (S.left source.old) (S.left source.new) (K.held sink.old) (K.held sink.new) }
     // The first line past a limit is named, and the text of the lines before it was appended.
-    ensures too_much { (line : ℕ) → result ≡ Status.TooMuch line
+    ensures too_much { (line : ℕ) → job_in words.now ≡ Some Job.Replay
+        → result ≡ Status.TooMuch line
         → IsTooMuchAt line (S.left source.old) (S.left source.new)
         (K.held sink.old) (K.held sink.new) }
     // ReadFault: the text of all whole lines that were read was appended.
-    ensures unread { result ≡ Status.ReadFault
+    ensures unread { job_in words.now ≡ Some Job.Replay → result ≡ Status.ReadFault
         → IsUnread (S.left source.old) (S.left source.new) (K.held sink.old) (K.held sink.new) }
     // WriteFault: a first part of the text was appended.
-    ensures unwritten { result ≡ Status.WriteFault
+    ensures unwritten { job_in words.now ≡ Some Job.Replay → result ≡ Status.WriteFault
         → IsCut (S.left source.old) (S.left source.new) (K.held sink.old) (K.held sink.new) }
     // OutOfMemory: a first part of the text was appended.
-    ensures no_memory { result ≡ Status.OutOfMemory
+    ensures no_memory { job_in words.now ≡ Some Job.Replay → result ≡ Status.OutOfMemory
         → IsCut (S.left source.old) (S.left source.new) (K.held sink.old) (K.held sink.new) }
     // Little more was taken than the lines that the status speaks of.
-    ensures ahead { IsAhead result (S.left source.old) (S.left source.new)
+    ensures ahead { job_in words.now ≡ Some Job.Replay → IsAhead result (S.left source.old) (S.left source.new)
         (K.held sink.old) (K.held sink.new) }
     // A schedule within the limits is done, where nothing fails and there is memory.
     ensures complete { job_in words.now ≡ Some Job.Replay
@@ -177,11 +202,19 @@ pub fn run<S: Source, K: Sink, W: Wire>(
         (λ input rest. HasSchedule input → (Rose (S.faults source.old) (S.faults source.new) → ⊥)
         → (Rose (K.faults sink.old) (K.faults sink.new) → ⊥)
         → (result ≡ Status.Done) ⊎ (result ≡ Status.OutOfMemory)) }
+    // Of `check`: its session ended as the status says.
+    ensures checked { job_in words.now ≡ Some Job.Check → EndsAs judges check_start result
+        (told (S.left source.old) (K.held sink.old) None 0)
+        (told (S.left source.new) (K.held sink.new) None 0) }
+    // Done: the verdict on the history in the lines was appended.
+    ensures verdict { job_in words.now ≡ Some Job.Check → result ≡ Status.Done
+        → IsVerdict (S.left source.old) (S.left source.new) (K.held sink.old) (K.held sink.new) }
 {
     prints_register_histories();
     shows_each_operation();
     match read_words(alloc, words) {
         Ok(Job::Replay) => replay_schedule(alloc, source, sink),
+        Ok(Job::Check) => judge_history(alloc, source, sink),
         Err(WordFault::Usage) => Status::Usage,
         Err(WordFault::OutOfMemory) => Status::OutOfMemory,
     }

@@ -247,6 +247,46 @@ fn answer_to(alloc: Global, texts: &[&str]) -> Result<Option<Status>, AllocError
     Ok(sink.written().is_empty().then_some(status))
 }
 
+// What `check` says of a write and a read of the key k, whose tail this is.
+fn is_judged(alloc: Global, tail: &[u8], verdict: &[u8]) -> Result<bool, AllocError> {
+    let mut input = Vec::from_slice(
+        alloc,
+        b"1 rack\n12 end\nhistory 2\nop 0 client 0 write k =x issued 2 answered 6\n",
+    )?;
+    input.extend_from_slice(tail)?;
+    let words = words_of(alloc, &["check"])?;
+    let mut source = source_of(alloc, &input, 7, 0)?;
+    let mut sink = sink_of(alloc, 4096, 0)?;
+    let status = run(alloc, &words, &mut source, &mut sink, &mut NoWire::make());
+    Ok(status == Status::Done && sink.written() == verdict)
+}
+
+#[test]
+fn histories_are_judged(rt: HostRuntime) -> Result<(), Fail> {
+    let cases: [(&[u8], &[u8]); 4] = [
+        (
+            b"op 1 client 0 read k issued 7 answered 11 =x\norder k 2\nat 0\nat 1\ndone\n",
+            b"yes 2 operations 1 keys\n",
+        ),
+        (
+            b"op 1 client 0 read k issued 7 answered 11 -\norder k 2\nat 0\nat 1\ndone\n",
+            b"no illegal 1\n",
+        ),
+        (
+            b"op 1 client 0 read k issued 7 answered 11 -\norder k 2\nat 1\nat 0\ndone\n",
+            b"no late 1 0\n",
+        ),
+        (
+            b"op 1 client 0 read k issued 7 answered 11 -\norder k 1\nat 1\ndone\n",
+            b"no missing 0\n",
+        ),
+    ];
+    for (tail, verdict) in cases {
+        assert!(rt; is_judged(rt.alloc(), tail, verdict)?);
+    }
+    Ok(())
+}
+
 #[test]
 fn other_words_are_no_command(rt: HostRuntime) -> Result<(), Fail> {
     assert_eq!(rt; answer_to(rt.alloc(), &[])?, Some(Status::Usage));

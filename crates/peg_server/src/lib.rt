@@ -16,10 +16,8 @@ ghost use Rattle.peg_packet.specs.Seen.{seen};
 ghost use Rattle.peg_packet.specs.Outbox.{posted};
 
 pub use peg_event::{Apply, FenceDid, ServerDid, WriteDid};
-use peg_name::{
-    ClientId, Config, Content, Key, OutOfMemory, Seq, ServerId, SwitchId, Version, home,
-};
-use peg_packet::{Packet, Post, content_of, decode, key_of};
+use peg_name::{Config, Content, Key, OutOfMemory, ServerId, SwitchId, Version, home};
+use peg_packet::{Header, Packet, Post, content_of, decode, key_of};
 use peg_store::Store;
 use std::alloc::Global;
 use std::marker::Model;
@@ -110,18 +108,11 @@ impl Server {
     {
         let rack = &self.config;
         match packet {
-            Packet::ToServerRead {
-                client,
-                server,
-                switch,
-                ..
+            Packet::ToServerRead { header, .. } | Packet::ToServerWrite { header, .. } => {
+                header.server == self.id
+                    && rack.has_client(header.client)
+                    && rack.has_switch(header.switch)
             }
-            | Packet::ToServerWrite {
-                client,
-                server,
-                switch,
-                ..
-            } => *server == self.id && rack.has_client(*client) && rack.has_switch(*switch),
             Packet::CopyOrder {
                 switch,
                 server,
@@ -174,32 +165,15 @@ impl Server {
         ensures err_sent { OnErr result (post.new ≡ post.old) }
     {
         match packet {
-            Packet::ToServerRead {
-                client,
-                seq,
-                switch,
-                key,
-                ..
-            } => Ok(self.on_read(*client, *seq, *switch, &key_of(key), post)),
+            Packet::ToServerRead { header, key } => Ok(self.on_read(header, &key_of(key), post)),
             Packet::ToServerWrite {
-                client,
-                seq,
+                header,
                 version,
-                switch,
                 key,
                 content,
-                ..
             } => {
                 let content = content_of(self.config.format(), *content);
-                self.on_write(
-                    *client,
-                    *seq,
-                    *version,
-                    *switch,
-                    &key_of(key),
-                    &content,
-                    post,
-                )
+                self.on_write(header, *version, &key_of(key), &content, post)
             }
             Packet::CopyOrder {
                 switch,
@@ -229,28 +203,22 @@ impl Server {
 
     /// Answers a read with the held version and content.
     #[tactic(auto, using(crate::proofs::Replies::read_reply_in_range, crate::proofs::Keeping::held_sendable))]
-    fn on_read(
-        &self,
-        client: ClientId,
-        seq: Seq,
-        switch: SwitchId,
-        key: &Key,
-        post: &mut Post,
-    ) -> ServerDid
+    fn on_read(&self, header: &Header, key: &Key, post: &mut Post) -> ServerDid
         requires format { post.old.format ≡ self.now.rack.format }
         requires room { length post.old.items < post.old.slots }
-        requires range { in_range self.now.rack.format
-            (model.ToServerRead client seq self.now.id switch key.now) ≡ true }
-        ensures answer { result
-            ≡ (serve self.now (model.ToServerRead client seq self.now.id switch key.now)).did }
-        ensures sent { post.new ≡ posted post.old
-            (serve self.now (model.ToServerRead client seq self.now.id switch key.now)).sent }
-        ensures packets { are_packets self.now.rack.format
-            (serve self.now (model.ToServerRead client seq self.now.id switch key.now)).sent
+        requires server { header.now.server ≡ self.now.id }
+        requires range { in_range self.now.rack.format (model.ToServerRead
+            header.now.client header.now.seq header.now.server header.now.switch key.now) ≡ true }
+        ensures answer { result ≡ (serve self.now (model.ToServerRead
+            header.now.client header.now.seq header.now.server header.now.switch key.now)).did }
+        ensures sent { post.new ≡ posted post.old (serve self.now (model.ToServerRead
+            header.now.client header.now.seq header.now.server header.now.switch key.now)).sent }
+        ensures packets { are_packets self.now.rack.format (serve self.now (model.ToServerRead
+            header.now.client header.now.seq header.now.server header.now.switch key.now)).sent
             ≡ true }
     {
         let (version, content) = self.store.read(key);
-        send::read_reply(client, seq, version, self.id, switch, key, &content, post);
+        send::read_reply(header, version, key, &content, post);
         ServerDid::Read { key: *key, version }
     }
 
@@ -258,49 +226,51 @@ impl Server {
     #[tactic(auto, using(crate::proofs::Replies::write_reply_in_range, crate::proofs::Replies::void_in_range, crate::proofs::Keeping::fits_applied))]
     fn on_write(
         &mut self,
-        client: ClientId,
-        seq: Seq,
+        header: &Header,
         version: Version,
-        switch: SwitchId,
         key: &Key,
         content: &Content<'_>,
         post: &mut Post,
     ) -> Result<ServerDid, OutOfMemory>
         requires format { post.old.format ≡ self.old.rack.format }
         requires room { length post.old.items < post.old.slots }
+        requires server { header.now.server ≡ self.old.id }
         requires version { 1 ≤ version }
         requires content { is_content self.old.rack.format content.now ≡ true }
         requires range { in_range self.old.rack.format
-            (model.ToServerWrite client seq version self.old.id switch key.now content.now) ≡ true }
+            (model.ToServerWrite header.now.client header.now.seq version
+            header.now.server header.now.switch key.now content.now) ≡ true }
         ensures answer { IfOk result (λ did. did ≡ (serve self.old
-            (model.ToServerWrite client seq version self.old.id switch key.now content.now)).did) }
+            (model.ToServerWrite header.now.client header.now.seq version
+            header.now.server header.now.switch key.now content.now)).did) }
         ensures after { OnOk result (self.new ≡ (serve self.old
-            (model.ToServerWrite client seq version self.old.id switch key.now content.now)
-            ).state) }
+            (model.ToServerWrite header.now.client header.now.seq version
+            header.now.server header.now.switch key.now content.now)).state) }
         ensures sent { OnOk result (post.new ≡ posted post.old
             (serve self.old
-            (model.ToServerWrite client seq version self.old.id switch key.now content.now)).sent) }
+            (model.ToServerWrite header.now.client header.now.seq version
+            header.now.server header.now.switch key.now content.now)).sent) }
         ensures packets { OnOk result (are_packets self.old.rack.format
             (serve self.old
-            (model.ToServerWrite client seq version self.old.id switch key.now content.now)).sent
+            (model.ToServerWrite header.now.client header.now.seq version
+            header.now.server header.now.switch key.now content.now)).sent
             ≡ true) }
         ensures rack { self.new.rack ≡ self.old.rack }
         ensures id { self.new.id ≡ self.old.id }
         ensures err { OnErr result (self.new ≡ self.old) }
         ensures err_sent { OnErr result (post.new ≡ post.old) }
     {
-        let id = self.id;
         Ok(match self.store.write(key, version, content)? {
             WriteDid::Applied => {
-                send::write_reply(client, seq, version, id, switch, key, post);
+                send::write_reply(header, version, key, post);
                 ServerDid::Applied { key: *key, version }
             }
             WriteDid::Kept { held } => {
-                send::write_reply(client, seq, version, id, switch, key, post);
+                send::write_reply(header, version, key, post);
                 ServerDid::Kept { key: *key, held }
             }
             WriteDid::Void { floor } => {
-                send::void(client, seq, version, id, switch, key, post);
+                send::void(header, version, key, post);
                 ServerDid::Void {
                     key: *key,
                     version,

@@ -6,93 +6,77 @@ ghost use Rattle.peg_model.specs.Packet as model;
 ghost use Rattle.peg_model.specs.Packet.{in_range};
 ghost use Rattle.peg_packet.specs.Outbox.{posted};
 
-use peg_name::{ClientId, Content, Key, Node, Seq, ServerId, SwitchId, Version};
-use peg_packet::{Packet, Post, bytes_of};
+use peg_name::{Content, Key, Node, ServerId, SwitchId, Version};
+use peg_packet::{Header, Packet, Post, bytes_of};
 
 /// The reply to a read.
 pub fn read_reply<'a>(
-    client: ClientId,
-    seq: Seq,
+    header: &Header,
     version: Version,
-    server: ServerId,
-    switch: SwitchId,
     key: &'a Key,
     content: &'a Content<'a>,
     post: &mut Post,
 )
     requires room { length post.old.items < post.old.slots }
     requires range { in_range post.old.format
-        (model.ReadReply client seq version server switch key.now content.now) ≡ true }
+        (model.ReadReply header.now.client header.now.seq version header.now.server
+        header.now.switch key.now content.now) ≡ true }
     ensures { post.new ≡ posted post.old
         ((
-          node.Switch switch,
-          model.ReadReply client seq version server switch key.now content.now,
+          node.Switch header.now.switch,
+          model.ReadReply header.now.client header.now.seq version header.now.server
+              header.now.switch key.now content.now,
         ) ∷ []) }
 {
     let packets = [Packet::ReadReply {
-        client,
-        seq,
+        header: *header,
         version,
-        server,
-        switch,
         key: key.bytes(),
         content: bytes_of(content),
     }];
-    post.put(Node::Switch(switch), &packets[0]);
+    post.put(Node::Switch(header.switch), &packets[0]);
 }
 
 /// The reply to a write.
-pub fn write_reply(
-    client: ClientId,
-    seq: Seq,
-    version: Version,
-    server: ServerId,
-    switch: SwitchId,
-    key: &Key,
-    post: &mut Post,
-)
+pub fn write_reply(header: &Header, version: Version, key: &Key, post: &mut Post)
     requires room { length post.old.items < post.old.slots }
     requires range { in_range post.old.format
-        (model.WriteReply client seq version server switch key.now) ≡ true }
+        (model.WriteReply header.now.client header.now.seq version header.now.server
+        header.now.switch key.now) ≡ true }
     ensures { post.new ≡ posted post.old
-        ((node.Switch switch, model.WriteReply client seq version server switch key.now) ∷ []) }
+        ((
+          node.Switch header.now.switch,
+          model.WriteReply header.now.client header.now.seq version header.now.server
+              header.now.switch key.now,
+        ) ∷ []) }
 {
     let packets = [Packet::WriteReply {
-        client,
-        seq,
+        header: *header,
         version,
-        server,
-        switch,
         key: key.bytes(),
     }];
-    post.put(Node::Switch(switch), &packets[0]);
+    post.put(Node::Switch(header.switch), &packets[0]);
 }
 
 /// The void of a write that came too late.
-pub fn void(
-    client: ClientId,
-    seq: Seq,
-    version: Version,
-    server: ServerId,
-    switch: SwitchId,
-    key: &Key,
-    post: &mut Post,
-)
+pub fn void(header: &Header, version: Version, key: &Key, post: &mut Post)
     requires room { length post.old.items < post.old.slots }
     requires range { in_range post.old.format
-        (model.Void client seq version server switch key.now) ≡ true }
+        (model.Void header.now.client header.now.seq version header.now.server
+        header.now.switch key.now) ≡ true }
     ensures { post.new ≡ posted post.old
-        ((node.Switch switch, model.Void client seq version server switch key.now) ∷ []) }
+        ((
+          node.Switch header.now.switch,
+          model.Void header.now.client header.now.seq version header.now.server
+              header.now.switch key.now,
+        ) ∷ []) }
 {
     let packets = [Packet::Void {
-        client,
-        seq,
+        header: *header,
         version,
-        server,
-        switch,
         key: key.bytes(),
     }];
-    post.put(Node::Switch(switch), &packets[0]);
+    post.put(Node::Switch(header.switch), &packets[0]);
 }
 
 /// The report that a version is held.

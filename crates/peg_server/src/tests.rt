@@ -1,6 +1,17 @@
 use crate::*;
+use peg_name::{ClientId, Seq};
 use peg_packet::{encode, is_in_range};
 use std::test::Fail;
+
+/// An operation of the first client, at a server and through the first switch.
+fn header(seq: u64, server: ServerId) -> Header {
+    Header {
+        client: ClientId(0),
+        seq: Seq(seq),
+        server,
+        switch: SwitchId(0),
+    }
+}
 
 #[test]
 fn each_kind_is_served(rt: HostRuntime) -> Result<(), Fail> {
@@ -9,30 +20,21 @@ fn each_kind_is_served(rt: HostRuntime) -> Result<(), Fail> {
     assert!(rt; u64::from(id.0) < config.servers());
     let mut server = Server::make(rt.alloc(), &config, id);
     let mut post = Post::make(rt.alloc(), config.format(), 6)?;
-    let (client, switch, version) = (ClientId(0), SwitchId(0), Version(5));
+    let (switch, version) = (SwitchId(0), Version(5));
     let target = ServerId(1);
     let packets = [
         Packet::ToServerWrite {
-            client,
-            seq: Seq(1),
+            header: header(1, id),
             version,
-            server: id,
-            switch,
             key: b"k",
             content: Some(b"x"),
         },
         Packet::ToServerRead {
-            client,
-            seq: Seq(2),
-            server: id,
-            switch,
+            header: header(2, id),
             key: b"k",
         },
         Packet::ToServerRead {
-            client,
-            seq: Seq(2),
-            server: ServerId(1),
-            switch,
+            header: header(2, target),
             key: b"k",
         },
         Packet::CopyOrder {

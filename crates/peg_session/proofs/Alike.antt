@@ -1,13 +1,13 @@
 -- For the words that are carried out as sessions.
-use Rattle.std.proofs.Common.{◌≡◌, ◌⊎◌, ◌+◌, ℕ, Bool, Option, List, [], ◌∷◌, ◌++◌, length, map}
-use Rattle.std.proofs.Common.{refl, sym, ap, ◌∙◌, subst, arith, append_assoc, inl, inr}
+use Rattle.std.proofs.Common.{◌≡◌, ◌+◌, ℕ, List, ◌++◌, length, map}
+use Rattle.std.proofs.Common.{refl, sym, ap, ◌∙◌, subst, append_assoc, inl, inr}
 use Rattle.std.proofs.Common.{length-append}
 use Rattle.std.proofs.lemmas.List.{append-nil}
-use Rattle.peg_io.specs.Outside.{Tells, Rose}
+use Rattle.peg_io.specs.Outside.{Tells}
 use Rattle.peg_meaning.specs.Wire.{Carried, Turn, Sent}
 use Rattle.peg_meaning.specs.Session.{Meaning, Came, Input, Entry, Datagram, Quiet, Tick, Inputs, Begin}
-use Rattle.peg_meaning.specs.Session.{More, Goes, Answer, after, came_of, state_of, carried_of}
-use Rattle.peg_meaning.specs.Session.{sent_from, hears, puts}
+use Rattle.peg_meaning.specs.Session.{More, Answer, after, came_of, state_of, carried_of}
+use Rattle.peg_meaning.specs.Session.{sent_from, hears}
 use Rattle.peg_session.specs.Ends.{Told, IsRead, Ended, HasCause, IsRefused, IsNearRefused}
 use Rattle.peg_meaning.specs.Session.{IsTaken}
 use Rattle.peg_io.specs.Lines.{HasNoFeed}

@@ -1,5 +1,5 @@
 -- Text that goes over a page.
-use Rattle.std.proofs.Common.{◌≡◌, ℕ, Bool, true, false, Option, Some, None, List, [], ◌++◌}
+use Rattle.std.proofs.Common.{◌≡◌, ℕ, Bool, true, false, Option, List, [], ◌++◌}
 use Rattle.std.proofs.Common.{take, drop, refl, sym, ap, ◌∙◌, append_assoc, subst}
 use Rattle.std.proofs.lemmas.List.{take-append-drop, append-nil}
 use Rattle.peg_io.specs.Outside.{Tells, WritesSome}

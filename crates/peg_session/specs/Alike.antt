@@ -1,17 +1,9 @@
 -- For the words that are carried out as sessions.
 --     WhereTold ..      what holds of the input and the output, where both are told
-use Rattle.std.specs.Prelude.{◌≡◌, ◌⊎◌, ◌+◌, ℕ, Bool, Option, Some, List, [], ◌∷◌, ◌++◌}
-use Rattle.std.specs.Prelude.{length, map}
-use Rattle.peg_meaning.specs.Wire as wire
-use Rattle.peg_io.specs.Outside.{Rose}
-use Rattle.peg_meaning.specs.Wire.{Turn, Sent}
-use Rattle.peg_meaning.specs.Session.{Meaning, Came, Goes, Past, Input, Datagram, Quiet, Inputs}
-use Rattle.peg_meaning.specs.Session.{Begin, More, came_of, state_of, sent_from}
+use Rattle.std.specs.Prelude.{◌≡◌, ℕ, Bool, Option, Some, List, ◌++◌}
+use Rattle.peg_meaning.specs.Session.{Meaning, Came, Goes, Past, Input}
 use Rattle.peg_session.specs.Ends.{IsReadBy, IsRefused}
-use Rattle.peg_meaning.specs.declared.Want.{Want}
 use Rattle.peg_meaning.specs.declared.Want.TheVariants as want
-use Rattle.peg_session.specs.declared.End.{End}
-use Rattle.peg_session.specs.declared.End.TheVariants as end
 
 abbrev pub WhereTold :
     Option (List ℕ) → Option (List ℕ) → Option (List ℕ) → Option (List ℕ)

@@ -14,9 +14,9 @@ use Rattle.peg_meaning.specs.Wire.{Carried, Turn, Sent}
 use Rattle.peg_io.specs.Lines.{line_of, past_line, HasNoFeed}
 use Rattle.peg_session.specs.Pages.{AppendsPart, AppendsMore}
 use Rattle.peg_meaning.specs.Session.{Meaning, Came, Past, Input, Entry, Datagram, Quiet, Tick, Inputs}
-use Rattle.peg_meaning.specs.Session.{Begin, More, Goes, came_of, state_of, text_of, lines_of}
+use Rattle.peg_meaning.specs.Session.{Begin, More, came_of, state_of, text_of, lines_of}
 use Rattle.peg_meaning.specs.Session.{carried_of, heard_of, bound_more}
-use Rattle.peg_meaning.specs.Session.{IsTurn, IsStep, Spells, IsWanted, DoesGo, IsTaken}
+use Rattle.peg_meaning.specs.Session.{IsTurn, Spells, IsWanted, IsTaken}
 use Rattle.peg_meaning.specs.declared.Want.{Want}
 use Rattle.peg_meaning.specs.declared.Want.TheVariants as want
 use Rattle.peg_session.specs.declared.End.{End}

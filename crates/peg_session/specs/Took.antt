@@ -5,7 +5,7 @@
 --     MayTake want taken      this is what is wanted
 --     Takes m s taken stepped ..      what was made of what was taken
 --     Hands taken x      what was taken is this input, and no line
-use Rattle.std.specs.Prelude.{◌≡◌, ◌≤◌, ◌<◌, ℕ, Bool, true, false, Option, List, length}
+use Rattle.std.specs.Prelude.{◌≡◌, ◌≤◌, ◌<◌, ℕ, true, false, Option, List, length}
 use Rattle.peg_meaning.specs.Session.{Meaning, Letter, Came, Goes, Past, Input, Entry, IsOnly}
 use Rattle.peg_meaning.specs.Session.{Datagram, Quiet, Tick, IsLineOf, IsTurn, IsTurnOf, IsStep}
 use Rattle.peg_session.specs.declared.Taken.{Taken}

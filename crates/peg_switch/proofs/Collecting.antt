@@ -11,16 +11,14 @@ use Rattle.peg_model.specs.Handover.{with_part, is_whole, held_count, state_of, 
 use Rattle.peg_model.specs.Switch.{Switch, SwitchStep, switch_step, is_active, activates, Active}
 use Rattle.peg_model.specs.Switch.{acknowledgement}
 use Rattle.peg_model.specs.Counts.{no_counts}
-use Rattle.peg_model.specs.Rules.{Stamps, Directory}
 use Rattle.peg_event.specs.declared.Outcome.TheVariants as outcome
 use Rattle.peg_event.specs.declared.SwitchDid.TheVariants as did
 use Rattle.peg_grammar.specs.State.{SpellsState}
 use Rattle.peg_parts.specs.declared.Taken.{Taken}
 use Rattle.peg_parts.specs.declared.Taken.TheVariants.{Old, Malformed, Repeated, More, Whole}
-use Rattle.peg_parts.specs.Taking.{Take, leaves, completes, take_part, stamps_after}
-use Rattle.peg_parts.specs.Taking.{entries_after}
+use Rattle.peg_parts.specs.Taking.{Take, leaves, completes, take_part}
 use Rattle.peg_parts.specs.Switching.{part_step, step_of}
-use Rattle.peg_switch.specs.Modes.{taken_in, is_short, IsNumbered}
+use Rattle.peg_switch.specs.Modes.{taken_in, is_short}
 
 -- what each answer leaves of what was collected, and the state that it brings
 Leaves : Taken → Take → Collected → Type 0
@@ -136,61 +134,6 @@ module _ (s : Switch) (epoch index count : ℕ) (bytes : List ℕ) where
       ∙ ap (λ a. step_of a took s epoch index count) whole
       ∙ whole_by last took s epoch (subst (λ a. Leaves a took s.collected) whole
       (left s.rack s.epoch s.collected epoch index count bytes))
-
-  -- what the collector brings where it is whole, and leaves alone where it is not
-  pub brought :
-      (last : ℕ) (old other : Stamps) → took.answer ≡ Whole last
-      → stamps_after other took.state ≡ stamps_after old took.state
-  unfolding Leaves
-  brought last old other whole =
-      by (subst (λ a. Leaves a took s.collected) whole
-      (left s.rack s.epoch s.collected epoch index count bytes))
-    where
-      by : Leaves (Whole last) took s.collected
-          → stamps_after other took.state ≡ stamps_after old took.state
-      by (x, some, same, number) =
-          ap (λ o. stamps_after other o) some ∙ sym (ap (λ o. stamps_after old o) some)
-
-  pub brought_entries :
-      (last : ℕ) (old other : Directory) → took.answer ≡ Whole last
-      → entries_after other took.state ≡ entries_after old took.state
-  unfolding Leaves
-  brought_entries last old other whole =
-      by (subst (λ a. Leaves a took s.collected) whole
-      (left s.rack s.epoch s.collected epoch index count bytes))
-    where
-      by : Leaves (Whole last) took s.collected
-          → entries_after other took.state ≡ entries_after old took.state
-      by (x, some, same, number) =
-          ap (λ o. entries_after other o) some ∙ sym (ap (λ o. entries_after old o) some)
-
-  pub kept_back :
-      is_short took.answer ≡ true → taken_in s took ≡ record s { collected = took.collected }
-  unfolding Leaves
-  kept_back short =
-      ap (λ o. taken_in s (record { answer = took.answer; collected = took.collected; state = o }))
-      (without took.answer (left s.rack s.epoch s.collected epoch index count bytes) short)
-    where
-      without : (a : Taken) → Leaves a took s.collected → is_short a ≡ true → took.state ≡ None
-      without Old (same, none) short = none
-      without Malformed (same, none) short = none
-      without Repeated (same, none) short = none
-      without (More held) none short = none
-      without (Whole last) is short = absurd (false≢true short)
-
-pub short_unless : (a : Taken) → ((last : ℕ) → a ≡ Whole last → ⊥) → is_short a ≡ true
-short_unless Old not = refl
-short_unless Malformed not = refl
-short_unless Repeated not = refl
-short_unless (More held) not = refl
-short_unless (Whole last) not = absurd (not last refl)
-
-pub short_number : (a : Taken) → is_short a ≡ true → IsNumbered a
-short_number Old short = tt
-short_number Malformed short = tt
-short_number Repeated short = tt
-short_number (More held) short = tt
-short_number (Whole last) short = absurd (false≢true short)
 
 -- ---- the number of a state that was taken
 

@@ -190,20 +190,7 @@ impl Switch {
         ensures last { IsNumbered result }
     {
         reads_back_what_is_spelled();
-        let taken = self.collector.take(
-            self.epoch,
-            epoch,
-            index,
-            count,
-            bytes,
-            &mut self.other_stamper,
-            &mut self.other_directory,
-        );
-        if let Taken::Whole { .. } = taken {
-            self.core
-                .swap(&mut self.other_stamper, &mut self.other_directory);
-        }
-        taken
+        self.core.take_part(&mut self.collector, self.epoch, epoch, index, count, bytes)
     }
 
     /// Is active from here on, with the core that it has, and tells the controller.

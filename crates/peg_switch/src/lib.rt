@@ -17,7 +17,6 @@ ghost use Rattle.peg_packet.specs.Outbox.{posted};
 ghost use Rattle.peg_packet.specs.Nodes.{are_in_rack};
 ghost use Rattle.peg_switch.specs.Seen.{mode_seen};
 
-use peg_directory::Directory;
 use peg_event::Outcome;
 pub use peg_event::SwitchDid;
 use peg_grammar::{fits_a_datagram, takes_a_state_over};
@@ -26,7 +25,6 @@ use peg_name::{Config, Format, Key, Node, OutOfMemory, SwitchId, Version};
 use peg_packet::{Packet, Post, What, decode};
 use peg_parts::{Collector, Parts};
 use peg_rules::Core;
-use peg_stamp::Stamper;
 use std::alloc::Global;
 use std::marker::Model;
 
@@ -58,8 +56,6 @@ pub struct Switch {
     kept: Option<Outcome>,
     parts: Parts,
     collector: Collector,
-    other_stamper: Stamper,
-    other_directory: Directory,
 }
 
 /// The most packets that one step sends, those of a handover: 32, and 64 in the second format.
@@ -67,10 +63,7 @@ pub fn most_packets(format: Format) -> usize
     ensures most { result ≡ parts_most format }
     ensures few { result ≤ 64 }
 {
-    match format {
-        Format::One => 32,
-        Format::Two => 64,
-    }
+    usize::from(format.most_parts())
 }
 
 impl Model for Switch {
@@ -98,9 +91,7 @@ impl Model for Switch {
         (s.id < s.core.rack.switches) × (s.counts.most ≡ s.core.rack.hot)
         × (answers s.core.rack.format s.last s.kept ≡ true)
         × (may_hand_over s.core.rack (mode_seen s.mode) s.epoch ≡ true)
-        × (s.parts.rack ≡ s.core.rack) × (s.collector.rack ≡ s.core.rack)
-        × (length s.other_stamper.rows ≡ s.core.rack.clients)
-        × (s.other_directory.rack ≡ s.core.rack) };
+        × (s.parts.rack ≡ s.core.rack) × (s.collector.rack ≡ s.core.rack) };
 }
 
 impl Switch {
@@ -133,8 +124,6 @@ impl Switch {
             kept: None,
             parts: Parts::make(alloc, config)?,
             collector: Collector::make(alloc, config)?,
-            other_stamper: Stamper::make(alloc, config)?,
-            other_directory: Directory::make(alloc, config)?,
         })
     }
 
@@ -236,24 +225,13 @@ impl Switch {
         let rack = self.config();
         match packet {
             Packet::Read { client, .. } | Packet::Write { client, .. } => rack.has_client(*client),
-            Packet::ReadReply {
-                client,
-                server,
-                switch,
-                ..
+            Packet::ReadReply { header, .. }
+            | Packet::WriteReply { header, .. }
+            | Packet::Void { header, .. } => {
+                rack.has_client(header.client)
+                    && rack.has_server(header.server)
+                    && rack.has_switch(header.switch)
             }
-            | Packet::WriteReply {
-                client,
-                server,
-                switch,
-                ..
-            }
-            | Packet::Void {
-                client,
-                server,
-                switch,
-                ..
-            } => rack.has_client(*client) && rack.has_server(*server) && rack.has_switch(*switch),
             Packet::Held { server, .. } => rack.has_server(*server),
             Packet::Command { what, .. } => self.has_nodes_of(what),
             Packet::Part { .. } | Packet::Survey => true,
@@ -359,31 +337,25 @@ impl Switch {
                 content,
             } => self.on_write(*client, *seq, key, *content, pick, post),
             Packet::ReadReply {
-                client,
-                seq,
+                header,
                 version,
-                server,
                 key,
                 ..
             }
             | Packet::WriteReply {
-                client,
-                seq,
+                header,
                 version,
-                server,
                 key,
-                ..
             } => {
                 fits_a_datagram();
-                post.forward(Node::Client(*client), bytes);
-                self.on_reply(*client, *seq, *version, *server, key)
+                post.forward(Node::Client(header.client), bytes);
+                self.on_reply(header, *version, key)
             }
             Packet::Void {
-                client,
-                seq,
+                header,
                 version,
                 ..
-            } => self.on_void(*client, *seq, *version),
+            } => self.on_void(header.client, header.seq, *version),
             Packet::Held {
                 server,
                 version,

@@ -15,10 +15,27 @@ ghost use Rattle.peg_packet.specs.Nodes.{are_in_rack};
 
 use crate::Switch;
 use peg_event::{Forward, SwitchDid};
-use peg_name::{ClientId, Node, Seq, ServerId, SwitchId, Version};
-use peg_packet::{Packet, Post, key_of};
+use peg_name::{ClientId, Node, Seq, ServerId, Version};
+use peg_packet::{Header, Packet, Post, key_of};
 
 impl Switch {
+    /// The header of what goes on to a server from this switch.
+    fn header(&self, client: ClientId, seq: Seq, server: ServerId) -> Header
+        ensures { result ≡ record {
+          client = client;
+          seq = seq;
+          server = server;
+          switch = self.now.id;
+        } }
+    {
+        Header {
+            client,
+            seq,
+            server,
+            switch: self.id,
+        }
+    }
+
     /// Counts a read and sends it to the server that the rules name.
     #[tactic(auto, using(crate::proofs::Forwards::read_goes_on))]
     pub(crate) fn on_read(
@@ -54,13 +71,8 @@ impl Switch {
         let name = key_of(key);
         match self.core.on_request(false, &name, client, seq, pick) {
             Forward::To { server, .. } => {
-                let packets = [Packet::ToServerRead {
-                    client,
-                    seq,
-                    server,
-                    switch: self.id,
-                    key,
-                }];
+                let header = self.header(client, seq, server);
+                let packets = [Packet::ToServerRead { header, key }];
                 post.put(Node::Server(server), &packets[0]);
                 self.counts.see(&name);
                 SwitchDid::Read { server, key: name }
@@ -111,8 +123,8 @@ impl Switch {
         let name = key_of(key);
         match self.core.on_request(true, &name, client, seq, pick) {
             Forward::To { server, version } => {
-                let switch = self.id;
-                send_write(client, seq, version, server, switch, key, content, post);
+                let header = self.header(client, seq, server);
+                send_write(&header, version, key, content, post);
                 self.counts.see(&name);
                 SwitchDid::Wrote {
                     server,
@@ -126,25 +138,18 @@ impl Switch {
     }
 
     /// Notes what a reply says, before it goes on to its client.
-    pub(crate) fn on_reply(
-        &mut self,
-        client: ClientId,
-        seq: Seq,
-        version: Version,
-        server: ServerId,
-        key: &[u8],
-    ) -> SwitchDid
-        requires server { server < self.old.rack.servers }
+    pub(crate) fn on_reply(&mut self, header: &Header, version: Version, key: &[u8]) -> SwitchDid
+        requires server { header.now.server < self.old.rack.servers }
         requires key { model.is_key key.now ≡ true }
-        ensures answer { result
-            ≡ (on_reply self.old client seq version server key.now model.Survey).did }
-        ensures after { self.new
-            ≡ (on_reply self.old client seq version server key.now model.Survey).state }
+        ensures answer { result ≡ (on_reply self.old header.now.client header.now.seq version
+            header.now.server key.now model.Survey).did }
+        ensures after { self.new ≡ (on_reply self.old header.now.client header.now.seq version
+            header.now.server key.now model.Survey).state }
     {
-        let note = self.core.on_reply(server, &key_of(key), version);
+        let note = self.core.on_reply(header.server, &key_of(key), version);
         SwitchDid::Answered {
-            client,
-            seq,
+            client: header.client,
+            seq: header.seq,
             version,
             note,
         }
@@ -187,34 +192,28 @@ impl Switch {
 
 // Sends a stamped write to its server, with what the request lends.
 fn send_write<'a>(
-    client: ClientId,
-    seq: Seq,
+    header: &Header,
     version: Version,
-    server: ServerId,
-    switch: SwitchId,
     key: &'a [u8],
     content: Option<&'a [u8]>,
     post: &mut Post,
 )
     requires room { length post.old.items < post.old.slots }
     requires range { in_range post.old.format
-        (model.ToServerWrite client seq version server switch key.now (content_seen content))
-        ≡ true }
+        (model.ToServerWrite header.now.client header.now.seq version header.now.server
+        header.now.switch key.now (content_seen content)) ≡ true }
     ensures { post.new ≡ posted post.old
         ((
-          node.Server server,
-          model.ToServerWrite client seq version server switch key.now
-              (content_seen content.entry),
+          node.Server header.now.server,
+          model.ToServerWrite header.now.client header.now.seq version header.now.server
+              header.now.switch key.now (content_seen content.entry),
         ) ∷ []) }
 {
     let packets = [Packet::ToServerWrite {
-        client,
-        seq,
+        header: *header,
         version,
-        server,
-        switch,
         key,
         content,
     }];
-    post.put(Node::Server(server), &packets[0]);
+    post.put(Node::Server(header.server), &packets[0]);
 }

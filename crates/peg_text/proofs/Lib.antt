@@ -1,3 +1,4 @@
+pub mod Alike
 pub mod Appends
 pub mod Cuts
 pub mod Spelled

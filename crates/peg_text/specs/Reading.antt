@@ -3,6 +3,7 @@
 --     number_of w, number_below limit w      the number that a word is
 --     spelled form most w      the bytes that a word spells, at most so many of them
 --     are_plain w      each byte of a word spells itself
+--     escaped b      % and two digits
 --     key_of, value_of most, content_of, hex_of      a key, a value, a content and handed bytes
 --     next_by f, both_by first second      what the next word says, and what two readers say in
 --         turn
@@ -93,6 +94,10 @@ spelled form (suc n) (c ∷ w) =
 
 abbrev pub is_plain : ℕ → Bool
 is_plain b = is_between 33 126 b && not (b == 37)
+
+-- how a byte is spelled that doesn't spell itself
+abbrev pub escaped : ℕ → List ℕ
+escaped b = 37 ∷ hex_digit 65 (b / 16) ∷ hex_digit 65 (b % 16) ∷ []
 
 abbrev pub are_plain : List ℕ → Bool
 are_plain [] = true

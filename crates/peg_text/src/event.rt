@@ -7,7 +7,7 @@ ghost use Rattle.peg_text.specs.EntryLine.{IsEntryLine};
 ghost use Rattle.peg_model.specs.Schedule.{IsEventLine};
 ghost use Rattle.peg_event.specs.declared.Event as book;
 
-use crate::words::{Words, number_of};
+use crate::words::{Words, is, number_of};
 use peg_event::Event;
 use peg_name::{ClientId, Config, Format, Key, Node, ServerId, SwitchId, Value};
 
@@ -94,13 +94,13 @@ fn read_node(config: &Config, words: &mut Words<'_>) -> Option<Node>
         ≡ events.read_node config.now words.old }
 {
     let word = words.next()?;
-    if word == b"client".as_slice() {
+    if is(word, b"client") {
         Some(Node::Client(read_client(config, words)?))
-    } else if word == b"server".as_slice() {
+    } else if is(word, b"server") {
         Some(Node::Server(read_server(config, words)?))
-    } else if word == b"switch".as_slice() {
+    } else if is(word, b"switch") {
         Some(Node::Switch(read_switch(config, words)?))
-    } else if word == b"controller".as_slice() {
+    } else if is(word, b"controller") {
         Some(Node::Controller)
     } else {
         None
@@ -110,11 +110,11 @@ fn read_node(config: &Config, words: &mut Words<'_>) -> Option<Node>
 fn bare_event<'a>(verb: &[u8]) -> Option<Event<'a>>
     ensures { result ≡ events.bare_event verb.now }
 {
-    if verb == b"clear".as_slice() {
+    if is(verb, b"clear") {
         Some(Event::Clear)
-    } else if verb == b"retry".as_slice() {
+    } else if is(verb, b"retry") {
         Some(Event::Retry)
-    } else if verb == b"survey".as_slice() {
+    } else if is(verb, b"survey") {
         Some(Event::Survey)
     } else {
         None
@@ -125,28 +125,28 @@ fn control_event<'a>(verb: &[u8], words: &mut Words<'a>) -> Option<Event<'a>>
     ensures { option_map (λ event. (event, words.new)) result
         ≡ events.control_event verb.now words.old }
 {
-    if verb == b"promote".as_slice() {
+    if is(verb, b"promote") {
         let key = words.key()?;
         return Some(Event::Promote { key });
     }
-    if verb == b"demote".as_slice() {
+    if is(verb, b"demote") {
         let key = words.key()?;
         return Some(Event::Demote { key });
     }
-    if verb == b"copy".as_slice() {
+    if is(verb, b"copy") {
         let key = words.key()?;
         let target = read_target(words)?;
         return Some(Event::Copy { key, target });
     }
-    if verb == b"fence".as_slice() {
+    if is(verb, b"fence") {
         let key = words.key()?;
         return Some(Event::Fence { key });
     }
-    if verb == b"handover".as_slice() {
+    if is(verb, b"handover") {
         let target = read_target(words)?;
         return Some(Event::Handover { target });
     }
-    if verb == b"plan".as_slice() {
+    if is(verb, b"plan") {
         let promote_at = words.number()?;
         let demote_below = words.number()?;
         return Some(Event::Plan {
@@ -166,12 +166,12 @@ fn packet_event<'a>(
     ensures { option_map (λ event. (event, words.new)) result
         ≡ events.packet_event config.now verb.now words.old }
 {
-    if verb == b"deliver".as_slice() {
+    if is(verb, b"deliver") {
         let packet = words.number()?;
         let pick = read_pick(words)?;
         return Some(Event::Deliver { packet, pick });
     }
-    if verb == b"junk".as_slice() {
+    if is(verb, b"junk") {
         let to = read_node(config, words)?;
         let bytes = words.junk(room)?;
         return Some(Event::Junk { to, bytes });
@@ -201,24 +201,24 @@ fn event_by<'a>(
     ensures { option_map (λ event. (event, words.new)) result
         ≡ events.event_by config.now verb.now words.old }
 {
-    if verb == b"read".as_slice() {
+    if is(verb, b"read") {
         let (client, key) = read_client_key(config, words)?;
         return Some(Event::Read { client, key });
     }
-    if verb == b"write".as_slice() {
+    if is(verb, b"write") {
         let client = read_client(config, words)?;
         let key = words.key()?;
         let value = read_value(config, words, room)?;
         return Some(Event::Write { client, key, value });
     }
-    if verb == b"delete".as_slice() {
+    if is(verb, b"delete") {
         return read_delete(config, words);
     }
-    if verb == b"resend".as_slice() {
+    if is(verb, b"resend") {
         let client = read_client(config, words)?;
         return Some(Event::Resend { client });
     }
-    if verb == b"giveup".as_slice() {
+    if is(verb, b"giveup") {
         let client = read_client(config, words)?;
         return Some(Event::GiveUp { client });
     }
@@ -242,7 +242,7 @@ fn entry_of<'a>(config: &Config, line: &'a [u8], room: &'a mut [u8; 1024]) -> Op
 {
     match event_in(config, line, room) {
         Some(event) => Some(Entry::Event(event)),
-        None if line == b"end".as_slice() => Some(Entry::End),
+        None if is(line, b"end") => Some(Entry::End),
         None => None,
     }
 }

@@ -5,7 +5,7 @@ ghost use Rattle.peg_event.specs.declared.Op as book;
 ghost use Rattle.peg_text.specs.Reading.{words_of};
 ghost use Rattle.peg_text.specs.Ops as ops;
 
-use crate::words::Words;
+use crate::words::{Words, is};
 use peg_event::{Act, Op};
 use peg_name::{ClientId, Content};
 
@@ -23,9 +23,9 @@ fn read_given<'a>(
     ensures { option_map (λ given. (given, words.new)) result ≡ ops.read_given words.old }
 {
     let word = words.next()?;
-    if word == b"open".as_slice() {
+    if is(word, b"open") {
         Some(None)
-    } else if word == b"answered".as_slice() {
+    } else if is(word, b"answered") {
         let at = words.number()?;
         let content = words.content(room)?;
         Some(Some((at, content)))
@@ -38,9 +38,9 @@ fn read_end(words: &mut Words<'_>) -> Option<Option<u64>>
     ensures { option_map (λ end. (end, words.new)) result ≡ ops.read_end words.old }
 {
     let word = words.next()?;
-    if word == b"open".as_slice() {
+    if is(word, b"open") {
         Some(None)
-    } else if word == b"answered".as_slice() {
+    } else if is(word, b"answered") {
         Some(Some(words.number()?))
     } else {
         None
@@ -101,9 +101,9 @@ fn read_tail<'a>(
     ensures { option_map (λ op. (op, words.new)) result ≡ ops.read_tail client words.old }
 {
     let verb = words.next()?;
-    if verb == b"read".as_slice() {
+    if is(verb, b"read") {
         read_read(client, words, room)
-    } else if verb == b"write".as_slice() {
+    } else if is(verb, b"write") {
         read_write(client, words, room)
     } else {
         None

@@ -1,9 +1,9 @@
 //! Bytes as they are spelled in words.
-ghost use Rattle.std.specs.Prelude.{◌≡◌, ◌+◌, ◌<◌, ◌≤◌, IfSome, length, slice_index, take, option_map};
+ghost use Rattle.std.specs.Prelude.{◌≡◌, ◌<◌, ◌≤◌, ◌/◌, ◌%◌, ◌==◌, ◌&&◌, ◌∷◌, IfSome, length, take};
+ghost use Rattle.std.specs.Prelude.{option_map};
 ghost use Rattle.peg_model.specs.Text.{hex_digit};
 ghost use Rattle.peg_text.specs.Reading as reading;
-
-use arrayvec::ArrayVec;
+ghost use Rattle.peg_text.specs.declared.spelling.Form.TheVariants as form;
 
 /// How bytes are spelled: in the words of keys and values, or as pairs of digits.
 #[derive(Clone, Copy, Debug, PartialEq, Eq)]
@@ -20,28 +20,11 @@ fn hex_digit(letter: u8, n: u8) -> u8
     if n < 10 { b'0' + n } else { letter + (n - 10) }
 }
 
-/// How a byte is spelled.
-pub(crate) fn spelling_of(form: Form, byte: u8) -> ArrayVec<u8, 3>
-    ensures spelling { result.items ≡ reading.spelling_of form byte }
-    ensures few { length result.items ≤ 3 }
+/// How a byte is spelled that doesn't spell itself.
+pub(crate) fn escaped(byte: u8) -> [u8; 3]
+    ensures { result ≡ reading.escaped byte }
 {
-    let mut spelling = ArrayVec::new();
-    match form {
-        Form::Word => {
-            if (33..=126).contains(&byte) && byte != b'%' {
-                spelling.push(byte);
-            } else {
-                spelling.push(b'%');
-                spelling.push(hex_digit(b'A', byte / 16));
-                spelling.push(hex_digit(b'A', byte % 16));
-            }
-        }
-        Form::Hex => {
-            spelling.push(hex_digit(b'a', byte / 16));
-            spelling.push(hex_digit(b'a', byte % 16));
-        }
-    }
-    spelling
+    [b'%', hex_digit(b'A', byte / 16), hex_digit(b'A', byte % 16)]
 }
 
 fn digit_value(digit: u8) -> u8
@@ -56,30 +39,78 @@ fn digit_value(digit: u8) -> u8
     }
 }
 
-fn byte_at(bytes: &[u8], index: usize) -> u8
-    ensures { result ≡ slice_index bytes.now index }
-{
-    bytes.get(index).copied().unwrap_or(0)
-}
-
 fn pair_value(high: u8, low: u8) -> u8
     ensures { result ≡ reading.pair_value high low }
 {
     16 * digit_value(high) + digit_value(low)
 }
 
-fn first_byte(form: Form, text: &[u8]) -> u8
-    ensures { result ≡ reading.first_byte form text.now }
+/// Whether a byte spells itself.
+pub(crate) fn is_plain(byte: u8) -> bool
+    ensures { result ≡ reading.is_plain byte }
 {
-    match form {
-        Form::Word => {
-            if byte_at(text, 0) == b'%' {
-                pair_value(byte_at(text, 1), byte_at(text, 2))
-            } else {
-                byte_at(text, 0)
-            }
-        }
-        Form::Hex => pair_value(byte_at(text, 0), byte_at(text, 1)),
+    byte >= 33 && byte <= 126 && byte != b'%'
+}
+
+// Whether a byte is spelled by these two digits, the letters of which begin with this one.
+fn is_pair(letter: u8, byte: u8, high: u8, low: u8) -> bool
+    requires { letter ≤ 97 }
+    ensures { result ≡ (high == hex_digit letter (byte / 16)
+        && low == hex_digit letter (byte % 16)) }
+{
+    high == hex_digit(letter, byte / 16) && low == hex_digit(letter, byte % 16)
+}
+
+// A byte that doesn't spell itself, behind its %.
+#[tactic(auto, using(crate::proofs::Plain::next_escaped, crate::proofs::Plain::next_cut))]
+fn next_escaped(text: &[u8]) -> Option<(u8, &[u8])>
+    ensures { option_map (λ r. (r.0, r.1.now)) result ≡ reading.next_byte form.Word (37 ∷ text.now) }
+{
+    if text.len() < 2 {
+        return None;
+    }
+    let (high, low) = (text[0], text[1]);
+    let byte = pair_value(high, low);
+    if is_plain(byte) {
+        return None;
+    }
+    if is_pair(b'A', byte, high, low) {
+        Some((byte, &text[2..]))
+    } else {
+        None
+    }
+}
+
+#[tactic(auto, using(crate::proofs::Plain::next_unescaped))]
+fn next_in_word(text: &[u8]) -> Option<(u8, &[u8])>
+    ensures { option_map (λ r. (r.0, r.1.now)) result ≡ reading.next_byte form.Word text.now }
+{
+    let [byte, after @ ..] = text else {
+        return None;
+    };
+    if *byte == b'%' {
+        return next_escaped(after);
+    }
+    if is_plain(*byte) {
+        Some((*byte, after))
+    } else {
+        None
+    }
+}
+
+#[tactic(auto, using(crate::proofs::Plain::next_pair, crate::proofs::Plain::no_pair))]
+fn next_pair(text: &[u8]) -> Option<(u8, &[u8])>
+    ensures { option_map (λ r. (r.0, r.1.now)) result ≡ reading.next_byte form.Hex text.now }
+{
+    if text.len() < 2 {
+        return None;
+    }
+    let (high, low) = (text[0], text[1]);
+    let byte = pair_value(high, low);
+    if is_pair(b'a', byte, high, low) {
+        Some((byte, &text[2..]))
+    } else {
+        None
     }
 }
 
@@ -87,15 +118,10 @@ fn first_byte(form: Form, text: &[u8]) -> u8
 fn next_byte(form: Form, text: &[u8]) -> Option<(u8, &[u8])>
     ensures { option_map (λ r. (r.0, r.1.now)) result ≡ reading.next_byte form text.now }
 {
-    let byte = first_byte(form, text);
-    let after = text.strip_prefix(spelling_of(form, byte).as_slice())?;
-    Some((byte, after))
-}
-
-fn is_plain(byte: u8) -> bool
-    ensures { result ≡ reading.is_plain byte }
-{
-    byte >= 33 && byte <= 126 && byte != b'%'
+    match form {
+        Form::Word => next_in_word(text),
+        Form::Hex => next_pair(text),
+    }
 }
 
 /// Whether each byte of a word spells itself.

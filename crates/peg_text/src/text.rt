@@ -1,8 +1,9 @@
 //! A line that is printed, piece by piece.
 ghost use Rattle.std.specs.Prelude.{◌≡◌, ◌+◌, ◌*◌, ◌≤◌, ◌++◌, [], length, codes, decimal};
-ghost use Rattle.peg_model.specs.Text.{key_word, content_word};
+ghost use Rattle.peg_model.specs.Text.{key_word, content_word, plain_or_escaped};
+ghost use Rattle.peg_text.specs.Reading.{escaped};
 
-use crate::spelling::{Form, spelling_of};
+use crate::spelling::{are_plain, escaped, is_plain};
 use arrayvec::ArrayVec;
 use itoa::Buffer;
 use peg_name::{ClientId, Content, Key, Seq, ServerId, SwitchId, Version};
@@ -63,13 +64,46 @@ impl Text {
         self.push_bytes(buffer.format(number).as_bytes());
     }
 
-    fn push_all_spelled(&mut self, bytes: &[u8])
+    fn push_escaped(&mut self, byte: u8)
+        requires { length self.old + 3 ≤ 4096 }
+        ensures text { self.new ≡ self.old ++ escaped byte }
+        ensures room { length self.new ≡ length self.old + 3 }
+    {
+        self.push_bytes(escaped(byte).as_slice());
+    }
+
+    fn push_byte_spelled(&mut self, byte: u8)
+        requires { length self.old + 3 ≤ 4096 }
+        ensures text { self.new ≡ self.old ++ plain_or_escaped byte }
+        ensures room { length self.new ≤ length self.old + 3 }
+    {
+        if is_plain(byte) {
+            self.bytes.push(byte);
+        } else {
+            self.push_escaped(byte);
+        }
+    }
+
+    fn push_each_spelled(&mut self, bytes: &[u8])
         requires { length self.old + 3 * length bytes.now ≤ 4096 }
         ensures text { self.new ≡ self.old ++ key_word bytes.now }
         ensures room { length self.new ≤ length self.old + 3 * length bytes.now }
     {
         for byte in bytes {
-            self.push_bytes(spelling_of(Form::Word, *byte).as_slice());
+            self.push_byte_spelled(*byte);
+        }
+    }
+
+    #[tactic(auto, using(crate::proofs::Plain::plain_word))]
+    fn push_all_spelled(&mut self, bytes: &[u8])
+        requires { length self.old + 3 * length bytes.now ≤ 4096 }
+        ensures text { self.new ≡ self.old ++ key_word bytes.now }
+        ensures room { length self.new ≤ length self.old + 3 * length bytes.now }
+    {
+        if are_plain(bytes) {
+            self.push_bytes(bytes);
+        } else {
+            self.push_each_spelled(bytes);
         }
     }
 

@@ -1,6 +1,7 @@
 //! The words of a line, and what each says.
 ghost use Rattle.std.specs.Prelude.{◌≡◌, ◌<◌, ◌≤◌, [], ◌∷◌, MatchOption, IfSome, position};
 ghost use Rattle.std.specs.Prelude.{option_map};
+ghost use Rattle.std.specs.Str.{bytes_eq};
 ghost use Rattle.peg_text.specs.Reading as reading;
 ghost use Rattle.peg_text.specs.Racks as racks;
 ghost use Rattle.peg_text.specs.declared.spelling.Form.TheVariants as form;
@@ -9,6 +10,22 @@ use crate::spelling::{Form, are_plain, spelled};
 use peg_event::Junk;
 use peg_name::{Content, Key, Value};
 use std::marker::Model;
+
+/// Whether a word is this one.
+#[tactic(auto, using(crate::proofs::Alike::apart))]
+pub(crate) fn is(word: &[u8], name: &[u8]) -> bool
+    ensures { result ≡ bytes_eq word.now name.now }
+{
+    if word.len() != name.len() {
+        return false;
+    }
+    for i in 0..name.len() {
+        if word[i] != name[i] {
+            return false;
+        }
+    }
+    true
+}
 
 pub(crate) fn number_of(word: &[u8]) -> Option<u64>
     ensures { result ≡ reading.number_of word.now }
@@ -73,7 +90,7 @@ fn value_of<'a>(most: usize, word: &'a [u8], room: &'a mut [u8; 1024]) -> Option
 fn content_of<'a>(word: &'a [u8], room: &'a mut [u8; 1024]) -> Option<Content<'a>>
     ensures { result ≡ reading.content_of word.entry.now }
 {
-    if word == b"-".as_slice() {
+    if is(word, b"-") {
         return Some(Content::Absent);
     }
     Some(Content::Present(value_of(1024, word, room)?))
@@ -191,7 +208,11 @@ impl<'a> Words<'a> {
         ensures { option_map (λ read. (read, self.new)) result
             ≡ reading.next_by (racks.literal word.now) self.old }
     {
-        if self.next()? == word { Some(()) } else { None }
+        if is(self.next()?, word) {
+            Some(())
+        } else {
+            None
+        }
     }
 
     /// Reads the number behind this name.

@@ -101,7 +101,7 @@ Keeps lines client change =
     (o : Operation) → o.op.client ≡ client → StandsInTrace lines o.op
     → StandsInTrace lines (change o).op
 
-named_client :
+pub named_client :
     (client seq : ℕ) (o : Operation) → is_named client seq o ≡ true → o.op.client ≡ client
 named_client client seq o e = grind (arith, common_steps, e)
 

@@ -17,9 +17,11 @@ use Rattle.peg_model.specs.Schedule.{fed}
 use Rattle.peg_model.specs.Trace.{line_text, lines_text, trace_text, tail_text, replay_text}
 use Rattle.peg_model.specs.Headline.{LineBegins, StandsInTrace, IsLinearizable, OrdersAreHistories}
 use Rattle.peg_trace.specs.Lines.{event_lines, end_line, trace_lines}
+use Rattle.peg_trace.specs.Answers.{AreTold}
 use Rattle.peg_trace.proofs.Lists.{all_append, all_images, map_unchanged}
 use Rattle.peg_trace.proofs.Operations.{Stands, Says, issued_front, answer_front, begins_last}
 use Rattle.peg_trace.proofs.Operations.{all_still, all_changed, keeps_stamped, keeps_answered}
+use Rattle.peg_trace.proofs.Told.{answers_told}
 use Rattle.peg_trace.proofs.Events.{Effect, Same, Begins, Stamps, Answers, happened}
 
 -- ---- one line more
@@ -110,7 +112,7 @@ lines_are lines =
     ∙ ap (λ t. t ++ (fed end ++ [])) (events_are 2 lines)
     ∙ ap (λ t. lines_text 2 lines ++ t) (append-nil (fed end)))
 
-pub linearizable :
+unfoldable pub linearizable :
     (rack : Rack) (keys : List (List ℕ)) (events : List Event)
     → OrdersAreHistories (run (start rack keys) 2 events).0
     → IsLinearizable (replay_text rack keys events)
@@ -129,3 +131,14 @@ linearizable rack keys events histories =
           (λ key. refl);
       histories = histories;
     }
+
+-- and its lines answer what they say
+pub told :
+    (rack : Rack) (keys : List (List ℕ)) (events : List Event)
+    → OrdersAreHistories (run (start rack keys) 2 events).0
+    → (plain : IsLinearizable (replay_text rack keys events)) × AreTold plain.trace plain.ops
+unfolding linearizable
+told rack keys events histories = (
+  linearizable rack keys events histories,
+  ((run (start rack keys) 2 events).1, refl, answers_told rack keys events),
+)

@@ -12,11 +12,13 @@ ghost use Rattle.peg_model.specs.Schedule.{fed};
 ghost use Rattle.peg_model.specs.Trace.{trace_text, replay_text};
 ghost use Rattle.peg_model.specs.Headline.{StandsInTrace, IsLinearizable, OrdersAreHistories};
 ghost use Rattle.peg_trace.specs.Lines.{trace_lines};
+ghost use Rattle.peg_trace.specs.Answers.{AreAnswered, AreTold};
 
 /// For those who read a trace, or show that its orders are register histories. Each operation of a
 /// run stands in the trace of the run: it is issued at a line that says so, and where it is
-/// answered, then at a line where its client says so. The lines are those of the text. So all that
-/// is left of the text's being linearizable is that the printed orders are register histories.
+/// answered, then at a line where its client says so. And each line that says so answers exactly one
+/// operation, of that client, and gives a read its content. The lines are those of the text. So all
+/// that is left of the text's being linearizable is that the printed orders are register histories.
 pub fn shows_each_operation()
     ensures shown { (rack : Rack) (keys : List (List ℕ)) (events : List Event)
         → AllByRecursion (StandsInTrace (trace_lines (run (start rack keys) 2 events).1))
@@ -25,4 +27,10 @@ pub fn shows_each_operation()
     ensures linearizable { (rack : Rack) (keys : List (List ℕ)) (events : List Event)
         → OrdersAreHistories (run (start rack keys) 2 events).0
         → IsLinearizable (replay_text rack keys events) }
+    ensures answered { (rack : Rack) (keys : List (List ℕ)) (events : List Event)
+        → let done = run (start rack keys) 2 events in AreAnswered done.1 (history done.0) }
+    ensures told { (rack : Rack) (keys : List (List ℕ)) (events : List Event)
+        → OrdersAreHistories (run (start rack keys) 2 events).0
+        → (plain : IsLinearizable (replay_text rack keys events))
+        × AreTold plain.trace plain.ops }
 {}

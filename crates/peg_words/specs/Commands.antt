@@ -1,4 +1,4 @@
--- What the parser of command lines is told.
+-- What the parser of command lines is told, and which job each command is.
 use Rattle.std.specs.Prelude.{ℕ, Bool, true, false, List, [], ◌∷◌, ◌==◌, codes, Option, Some, None}
 use Rattle.std.specs.Prelude.{if◌then◌else◌}
 use Rattle.std.specs.Str.{bytes_eq}
@@ -22,8 +22,12 @@ program = on_top (λ s. record s {
 
 -- the program with its commands
 abbrev pub commands : App
-commands = with_subcommand program (new_shape (codes "replay"))
+commands =
+    with_subcommand (with_subcommand program (new_shape (codes "replay")))
+    (new_shape (codes "check"))
 
--- the job of a command that the parser met
+-- the job of a command
 abbrev pub job_named : List ℕ → Option Job
-job_named name = if bytes_eq name (codes "replay") then Some job.Replay else None
+job_named name =
+    if bytes_eq name (codes "replay") then Some job.Replay
+    else (if bytes_eq name (codes "check") then Some job.Check else None)

@@ -21,6 +21,8 @@ mod tests;
 pub enum Job {
     /// Read a schedule, and write its trace, its history and its orders.
     Replay,
+    /// Read a history and the orders of its keys, and write the verdict on them.
+    Check,
 }
 
 /// Why the words call for no job.
@@ -83,6 +85,7 @@ fn job_met(matches: &ArgMatches<'_>) -> Option<Job>
 {
     match matches.subcommand_name() {
         Some("replay") => Some(Job::Replay),
+        Some("check") => Some(Job::Check),
         _ => None,
     }
 }
@@ -96,5 +99,6 @@ fn commands<'a>(alloc: Global) -> Result<Command<'a>, AllocError>
         .disable_help_flag(true)
         .disable_help_subcommand(true)
         .subcommand_required(true)
-        .subcommand(Command::new(alloc, "replay"))
+        .subcommand(Command::new(alloc, "replay"))?
+        .subcommand(Command::new(alloc, "check"))
 }

@@ -4,7 +4,7 @@ use std::test::Fail;
 #[test]
 fn words_call_for_a_job_or_are_refused(rt: HostRuntime) -> Result<(), Fail> {
     let alloc = rt.alloc();
-    let cases: [(&[&str], Result<Job, WordFault>); 11] = [
+    let cases: [(&[&str], Result<Job, WordFault>); 13] = [
         (&[], Err(WordFault::Usage)),
         (&["replay"], Ok(Job::Replay)),
         (&["replay", "x"], Err(WordFault::Usage)),
@@ -13,7 +13,9 @@ fn words_call_for_a_job_or_are_refused(rt: HostRuntime) -> Result<(), Fail> {
         (&["-h"], Err(WordFault::Usage)),
         (&["replay", "-"], Err(WordFault::Usage)),
         (&["replay", "--"], Err(WordFault::Usage)),
-        (&["check"], Err(WordFault::Usage)),
+        (&["check"], Ok(Job::Check)),
+        (&["check", "replay"], Err(WordFault::Usage)),
+        (&["checks"], Err(WordFault::Usage)),
         (&[""], Err(WordFault::Usage)),
         (&["help"], Err(WordFault::Usage)),
     ];

@@ -1,13 +1,12 @@
 -- A packet that a client takes, and what is noted of it.
-use Rattle.std.proofs.Common.{◌≡◌, ℕ, ◌+◌, ◌<◌, ◌≤◌, true, List, length, ap, sym, ◌∙◌, refl, subst}
-use Rattle.std.proofs.Common.{Some, arith, slice_get, [], length-append}
-use Rattle.std.specs.Prelude.{Ok, Err, IfSome}
+use Rattle.std.proofs.Common.{◌≡◌, ℕ, ◌<◌, ◌≤◌, true, List, length, ap, sym, ◌∙◌, refl, subst}
+use Rattle.std.proofs.Common.{Some, arith, slice_get, []}
+use Rattle.std.specs.Prelude.{Ok, IfSome}
 use Rattle.peg_name.specs.declared.Node.{Node}
 use Rattle.peg_event.specs.declared.ClientDid.{ClientDid}
 use Rattle.peg_event.specs.declared.ClientDid.TheVariants as client_did
 use Rattle.peg_event.specs.declared.Said.{Said}
 use Rattle.peg_event.specs.declared.Said.TheVariants as said
-use Rattle.peg_event.specs.declared.Line.{Line}
 use Rattle.peg_model.specs.Words.{Step}
 use Rattle.peg_model.specs.Packet.{Packet}
 use Rattle.peg_model.specs.Client.{Client, client_step}
@@ -20,7 +19,6 @@ use Rattle.peg_ledger.specs.Kept.{IsOpen}
 use Rattle.peg_world.specs.Acting.{Acting, client_at, client_acts}
 use Rattle.peg_world.specs.Machine.{AreKept, world_of}
 use Rattle.peg_world.specs.Midway.{Midway, Came, at_place}
-use Rattle.peg_world.specs.declared.Halt.TheVariants as halt
 use Rattle.peg_world.proofs.Coming.{came}
 use Rattle.peg_world.proofs.Kept.{kept_answered}
 use Rattle.peg_world.proofs.Knowing.{is_open, answered_length}
@@ -72,23 +70,6 @@ module _
         answers_are
         ∙ ap (λ w. client_stepped (at_place w place) id (client_step (client_of w id) p)) seen
         ∙ ap (λ x. client_stepped (at_place old place) id (client_step (client_of old id) x)) read
-
-    -- more packets are in flight than a run has
-    pub answer_full :
-        (old : Midway) (q : Packet) → p ≡ q → w0 ≡ old.world → 200000 < length packets
-        → Came old old place
-        (client_stepped (at_place old.world place) id (client_step (client_of old.world id) q))
-        (Err halt.TooMuch)
-    answer_full old q read seen full =
-        let count = ap (λ (x : World × Line). length x.0.packets) (stepped_is old.world q read seen)
-        in
-        record {
-          comes = (refl, refl, omega (arith, full, count, length-append packets step.sent));
-          at = tt;
-          rack = refl;
-          packets = tt;
-          counted = omega arith;
-        }
 
     pub answer_came :
         (old now : Midway) (n1 : Acting) (operations2 : List Operation)

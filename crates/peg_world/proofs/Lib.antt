@@ -15,4 +15,3 @@ pub mod Answering
 pub mod Distinct
 pub mod Delivering
 pub mod Switching
-pub mod Lines

@@ -1,10 +1,12 @@
 -- What a line says, where the content of an answered read is that of the packet which gave it.
---     number_in event w      the packet that is delivered, if there is one of the number
+--     number_at w number, number_in event w      the number, or that of the packet that is delivered,
+--         if there is such a packet
 --     content_in packet      the content that a reply gives a reader
 --     said_told number w said      what is said, with the content of the packet of the number
 --     told number w result      the same of what an event came to
 --     without did      what a client did, without the content that it was given
---     IsBegun, IsControl said      what is said of an operation, or of what the controller was told
+--     IsTold, IsControl said      what is said of an operation or of what the controller was told,
+--         and of the latter alone
 use Rattle.std.specs.Prelude.{ℕ, Option, Some, None, Result, Ok, Err, if◌then◌else◌, nat_lt, length}
 use Rattle.peg_name.specs.declared.Content.{Content}
 use Rattle.peg_name.specs.declared.Content.TheVariants.{Absent}
@@ -52,16 +54,16 @@ abbrev pub without : ClientDid → ClientDid
 without (client_did.Read seq version content) = client_did.Read seq version Absent
 without did = did
 
-abbrev pub IsBegun : Said → Type 0
-IsBegun (said.Read client seq) = Unit {0}
-IsBegun (said.Write client seq) = Unit {0}
-IsBegun (said.Delete client seq) = Unit {0}
-IsBegun (said.Busy client seq) = Unit {0}
-IsBegun (said.Spent client) = Unit {0}
-IsBegun (said.Resend client seq) = Unit {0}
-IsBegun (said.GiveUp client seq) = Unit {0}
-IsBegun (said.NothingOpen client) = Unit {0}
-IsBegun _ = ⊥
+abbrev pub IsTold : Said → Type 0
+IsTold said.Rack = ⊥
+IsTold said.End = ⊥
+IsTold said.Forged = ⊥
+IsTold (said.NoSuchPacket number count) = ⊥
+IsTold (said.Switch switch did) = ⊥
+IsTold (said.Server server did) = ⊥
+IsTold (said.Client client did) = ⊥
+IsTold (said.Controller did) = ⊥
+IsTold _ = Unit {0}
 
 abbrev pub IsControl : Said → Type 0
 IsControl (said.Orders number command) = Unit {0}

@@ -2,7 +2,7 @@
 #![tactic(auto)]
 
 ghost use Rattle.std.specs.Prelude.{◌≡◌, ◌≢◌, ◌<◌, ◌≤◌, AllPairs, length, map, slice_get, Some};
-ghost use Rattle.std.specs.Prelude.{IfOk, IfErr, OnOk, Err, true, false, ℕ, Option};
+ghost use Rattle.std.specs.Prelude.{IfOk, IfErr, OnOk, Err, true, false};
 ghost use Rattle.peg_history.specs.Groups.{key_orders};
 ghost use Rattle.peg_model.specs.Datagrams.{spelled};
 ghost use Rattle.peg_model.specs.Schedule.{EventInRack};

@@ -103,17 +103,35 @@ pub(crate) enum Note {
     Nothing,
 }
 
-/// What a switch's step on the bytes of a packet is noted for.
+/// What a switch's step on the bytes of a packet is noted for. They are read again only where it
+/// stamped a write or applied a command.
 pub(crate) fn note_of(bytes: &[u8], did: &SwitchDid) -> Note
     ensures { result ≡ note_of (packet_of bytes.now) did.now }
 {
-    let Some((format, packet)) = decode(bytes) else {
-        return Note::Nothing;
-    };
     match did {
-        SwitchDid::Wrote { version, .. } => stamped(&packet, *version),
-        SwitchDid::Applied { outcome, .. } => listed(format, &packet, outcome),
+        SwitchDid::Wrote { version, .. } => stamped_in(bytes, *version),
+        SwitchDid::Applied { outcome, .. } => listed_in(bytes, outcome),
         _ => Note::Nothing,
+    }
+}
+
+fn stamped_in(bytes: &[u8], version: Version) -> Note
+    ensures { (server : ℕ) (written : List ℕ) → result
+        ≡ note_of (packet_of bytes.now) (switch_did.Wrote server written version) }
+{
+    match decode(bytes) {
+        Some((_format, packet)) => stamped(&packet, version),
+        None => Note::Nothing,
+    }
+}
+
+fn listed_in(bytes: &[u8], outcome: &Outcome) -> Note
+    ensures { (number : ℕ)
+        → result ≡ note_of (packet_of bytes.now) (switch_did.Applied number outcome.now) }
+{
+    match decode(bytes) {
+        Some((format, packet)) => listed(format, &packet, outcome),
+        None => Note::Nothing,
     }
 }
 

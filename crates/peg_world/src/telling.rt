@@ -6,7 +6,7 @@ ghost use Rattle.peg_packet.specs.Seen.{seen};
 ghost use Rattle.peg_ledger.specs.After.{answered_size};
 ghost use Rattle.peg_world.specs.Midway.{packet_at};
 ghost use Rattle.peg_world.specs.Telling.{number_in, content_in, did_told, said_told, without};
-ghost use Rattle.peg_world.specs.Telling.{IsBegun, IsControl};
+ghost use Rattle.peg_world.specs.Telling.{IsTold, IsControl};
 
 use crate::machine::Machine;
 use peg_event::{ClientDid, Event, Said};
@@ -79,15 +79,7 @@ pub(crate) fn said_of<'a>(
             did: did_of(machine, number, did),
         },
         Said::Controller { did } => Said::Controller { did: *did },
-        Said::Read { .. }
-        | Said::Write { .. }
-        | Said::Delete { .. }
-        | Said::Busy { .. }
-        | Said::Spent { .. }
-        | Said::Resend { .. }
-        | Said::GiveUp { .. }
-        | Said::NothingOpen { .. } => begun_of(said),
-        _ => control_of(said),
+        _ => told_of(said),
     }
 }
 
@@ -123,9 +115,10 @@ fn did_of<'a>(
     }
 }
 
-// What is said of an operation.
-fn begun_of<'a>(said: &Said<'_>) -> Said<'a>
-    requires { IsBegun said.now }
+// What is said of an operation that was to begin, to be sent again or to be given up, or of what the
+// controller was told.
+fn told_of<'a>(said: &Said<'_>) -> Said<'a>
+    requires { IsTold said.now }
     ensures { (number : Option ℕ) (w : book.World) → result ≡ said_told number w said.now }
 {
     match said {
@@ -155,7 +148,7 @@ fn begun_of<'a>(said: &Said<'_>) -> Said<'a>
             seq: *seq,
         },
         Said::NothingOpen { client } => Said::NothingOpen { client: *client },
-        _ => unreachable!(),
+        _ => control_of(said),
     }
 }
 

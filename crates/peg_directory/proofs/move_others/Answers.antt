@@ -40,11 +40,9 @@ loop-i-preserved g c =
     let e = c.entry_at-other.result in
     let key = c.args.key.now in
     let at = sym c.entry_at-other.ensures in
-    let is = c.other.view_is in
     elim c.if-ne.branch [
       | then-ne w ↦
-          let stays = ap (bytes_eq key) (sym is)
-          ∙ not_false (bytes_eq key c.other.inside.0) (sym c.ne.ensures ∙ w.if-ne.true) in
+          let stays = not_false (bytes_eq key e.0) (sym c.ne.ensures ∙ w.if-ne.true) in
           let none =
           ap (lookup (bytes_eq e.0)) inv.moved
           ∙ absent bytes_eq key nat_list_eq_equiv es i e c.len-i-end.ensures.unique at stays in
@@ -60,8 +58,7 @@ loop-i-preserved g c =
             few = omega (arith, long, inv.few);
           }
       | else-ne w ↦
-          let goes = ap (bytes_eq key) (sym is)
-          ∙ not_true (bytes_eq key c.other.inside.0) (sym c.ne.ensures ∙ w.if-ne.false) in
+          let goes = not_true (bytes_eq key e.0) (sym c.ne.ensures ∙ w.if-ne.false) in
           record {
             moved = ap (λ m. m.entries) w.to-is ∙ inv.moved
                 ∙ sym (passed bytes_eq key es i e at goes);

@@ -1,14 +1,12 @@
 -- The parser's clauses at the program's commands, and what the words then are.
-use Rattle.std.proofs.Common.{◌≡◌, ◌∙◌, sym, ap, subst, map, Ok, Some}
-use Rattle.std.specs.Prelude.{IfOk, Result, option_and_then}
+use Rattle.std.proofs.Common.{◌≡◌, ◌∙◌, sym, ap, subst, map, Ok, Err, Some, None}
+use Rattle.std.specs.Prelude.{IfOk, Result}
 use Rattle.std.specs.Option.{ok_or}
 use Rattle.std.specs.String.{string_bytes}
 use Rattle.peg_words.specs.declared.Job.{Job}
-use Rattle.peg_words.specs.declared.Job.TheVariants as job
 use Rattle.peg_words.specs.declared.WordFault.{WordFault}
 use Rattle.peg_words.specs.declared.WordFault.TheVariants as fault
 use Rattle.peg_words.specs.Jobs.{job_of}
-use Rattle.peg_words.specs.Commands.{job_named}
 use Rattle.peg_words.proofs.Command.{as_texts, parses, refuses, dashed}
 use Rattle.peg_words.proofs.read_words.Goals as goal
 
@@ -24,13 +22,13 @@ returns-in-Ok c =
     let free = as_texts string_bytes c.args.words.now c.has_option.ensures c.if-has_option.false in
     let met = parses _ words c.in_ok-commands.ensures free c.in-Ok.matches c.in-Ok.ensures.kinds
     c.in-Ok.ensures.matches in
-    let named : c.ok_or.result ≡ Ok job.Replay =
-    c.ok_or.ensures.value
-    ∙ ap (λ o. ok_or o fault.Usage) (c.job_met.ensures ∙ ap (option_and_then job_named) met.0) in
+    let named : c.ok_or.result ≡ Ok met.0 =
+    c.ok_or.ensures.value ∙ ap (λ o. ok_or o fault.Usage) (c.job_met.ensures ∙ met.1) in
     let ReadsAll : Result Job WordFault → Type 0 = λ r. IfOk r (λ j. job_of words ≡ Some j) in
+    let IsNoUsage : Result Job WordFault → Type 0 = λ r. r ≡ Err fault.Usage → job_of words ≡ None in
     record {
-      job = subst ReadsAll (sym named) met.1;
-      usage = λ e. absurd (cc);
+      job = subst ReadsAll (sym named) met.2;
+      usage = subst IsNoUsage (sym named) (λ e. absurd (cc));
     }
 
 pub returns : goal.returns

@@ -7,7 +7,7 @@ use Rattle.peg_history.proofs.group.groups_of.Goals as goal
 
 pub loop-place-init : goal.loop-place-init
 loop-place-init c =
-    none_passed c.args.history.now.ops c.args.tags.now c.new-known.result (map group_of c.new-groups.result.items) (ap (map group_of) c.new-groups.ensures.items) c.new-known.ensures.empty
+    none_passed c.args.history.now.ops c.args.tags.now c.new-known.result.keys (map group_of c.new-groups.result.items) (ap (map group_of) c.new-groups.ensures.items) c.new-known.ensures.empty
 
 pub loop-place-preserved : goal.loop-place-preserved
 loop-place-preserved c =
@@ -19,7 +19,7 @@ loop-place-preserved c =
     let in_tags : place < length c.args.tags.now = omega (arith, c.requires, in_ops) in
     let rest = rest_more ops c.args.tags.now place op tag in_ops in_tags
     (sym (get_or_from_slice_get ops place op op (sym c.op-op.ensures))) c.index-tags-place.is in
-    more_passed ops c.args.tags.now place op tag c.entry_if-entry.result c.loop-place.known c.add.new.known
+    more_passed ops c.args.tags.now place op tag c.entry_if-entry.result c.loop-place.known.keys c.add.new.known.keys
     (map group_of c.loop-place.groups.items) (map group_of c.add.new.groups.items) rest c.entry_if-entry.ensures.range c.entry_if-entry.ensures.entry
     c.in_ok-add.ensures.groups c.in_ok-add.ensures.index c.loop-place.invariant
 
@@ -30,7 +30,7 @@ returns c =
     omega (arith, c.len-place-end.ensures.len, c.loop-place-test.false) in
     record {
       groups =
-          all_groups ops c.args.tags.now c.loop-place.place c.loop-place.known (map group_of c.loop-place.groups.items) past c.loop-place.invariant;
+          all_groups ops c.args.tags.now c.loop-place.place c.loop-place.known.keys (map group_of c.loop-place.groups.items) past c.loop-place.invariant;
       range =
-          all_range ops c.args.tags.now c.loop-place.place c.loop-place.known (map group_of c.loop-place.groups.items) past c.loop-place.invariant;
+          all_range ops c.args.tags.now c.loop-place.place c.loop-place.known.keys (map group_of c.loop-place.groups.items) past c.loop-place.invariant;
     }

@@ -1,8 +1,9 @@
 use Rattle.peg_grammar.proofs.Parts.{pair_none}
 use Rattle.peg_packet.proofs.parts.last_pair.Goals as goal
 
-pub returns-in_default-last_content : goal.returns-in_default-last_content
-returns-in_default-last_content c =
-    pair_none c.args.bytes.now c.args.at c.in-Some.next c.in-Some.ensures.next_is
-    c.in-Some.ensures.whole
-    c.in_default-last_content.ensures
+pub returns-in_err-content : goal.returns-in_err-content
+returns-in_err-content c =
+    rw c.from_residual-in_err-content.ensures
+    (pair_none c.args.bytes.now c.args.at c.in_ok-key.next c.in_ok-key.ensures.next_is
+    c.in_ok-key.ensures.whole
+    c.in_err-content.ensures)

@@ -4,25 +4,26 @@ use Rattle.peg_model.specs.Reading.{one_at, key_at}
 use Rattle.peg_grammar.proofs.Parts.{held_says, held_whole}
 use Rattle.peg_packet.proofs.read.held.Goals as goal
 
-pub returns-in_default : goal.returns-in_default
-returns-in_default c =
-    λ format begun ranges spelled. c.in_default.ensures
-    (held_says format _ _ _ c.args.bytes.now spelled)
+pub returns-in_err-key : goal.returns-in_err-key
+returns-in_err-key c =
+    rw c.from_residual.ensures
+    (λ format begun ranges spelled. c.in_err-key.ensures
+    (held_says format _ _ _ c.args.bytes.now spelled))
 
 pub bounds-bytes-4 : goal.bounds-bytes-4
 bounds-bytes-4 c =
-    omega (arith, c.in-Some.ensures.fits)
+    omega (arith, c.in_ok-key.ensures.fits)
 
 pub eight_at-requires : goal.eight_at-requires
 eight_at-requires c =
-    omega (arith, c.in-Some.ensures.fits)
+    omega (arith, c.in_ok-key.ensures.fits)
 
 pub returns : goal.returns
 returns c =
     λ format begun. (
       λ i. Held (one_at c.args.bytes.now 4) (c.eight_at.ensures.number i)
-          (c.in-Some.ensures.key_is i),
+          (c.in_ok-key.ensures.key_is i),
       held_whole format c.args.bytes.now
-          (key_at c.args.bytes.now 13) begun (omega (arith, c.in-Some.ensures.fits))
-          c.eight_at.ensures.split c.in-Some.ensures.whole,
+          (key_at c.args.bytes.now 13) begun (omega (arith, c.in_ok-key.ensures.fits))
+          c.eight_at.ensures.split c.in_ok-key.ensures.whole,
     )

@@ -12,13 +12,14 @@ returns-then-bytes-lt21 c =
     λ format begun ranges same. let says =
     report_says format _ _ _ c.args.bytes.now same in omega (arith, says.0)
 
-pub returns-in_default : goal.returns-in_default
-returns-in_default c =
-    λ format begun ranges same.
+pub returns-in_err-rows : goal.returns-in_err-rows
+returns-in_err-rows c =
+    rw c.from_residual.ensures
+    (λ format begun ranges same.
     let P : List ℕ → Type 0 = λ b. RowsFrom b (one_at c.args.bytes.now 20) 0 in
-    c.in_default.ensures
+    c.in_err-rows.ensures
     (subst P (sym c.tail-spelled.ensures)
-    (report_rows format _ _ c.args.bytes.now ranges same))
+    (report_rows format _ _ c.args.bytes.now ranges same)))
 
 pub returns : goal.returns
 returns c =
@@ -27,11 +28,11 @@ returns c =
     ap (λ b. rows_at b (one_at c.args.bytes.now 20) 0) c.tail-spelled.ensures ∙ rows_at-drop
     c.args.bytes.now 21 (one_at c.args.bytes.now 20) 0 in (
       λ i. Report (c.eight_at.ensures.number i) (c.eight_at-2.ensures.number i)
-          ((c.in-Some.ensures.0 ∙ at_front) i),
+          ((c.in_ok-rows.ensures.0 ∙ at_front) i),
       report_whole format c.args.bytes.now
           (rows_at c.args.bytes.now (one_at c.args.bytes.now 20) 21) begun (omega arith)
           c.eight_at.ensures.split c.eight_at-2.ensures.split
           (sym (length-rows_at c.args.bytes.now (one_at c.args.bytes.now 20) 21))
-          (sym c.tail-spelled.ensures ∙ c.in-Some.ensures.1.spelled
+          (sym c.tail-spelled.ensures ∙ c.in_ok-rows.ensures.1.spelled
           ∙ ap (flat_map row_bytes) at_front),
     )

@@ -3,14 +3,15 @@ use Rattle.peg_model.specs.Packet.{Write}
 use Rattle.peg_grammar.proofs.Parts.{write_says, write_whole}
 use Rattle.peg_packet.proofs.read.write.Goals as goal
 
-pub returns-in_default : goal.returns-in_default
-returns-in_default c =
-    λ format begun ranges spelled. c.in_default.ensures
-    (write_says format _ _ _ _ c.args.bytes.now spelled).0
+pub returns-in_err-key : goal.returns-in_err-key
+returns-in_err-key c =
+    rw c.from_residual.ensures
+    (λ format begun ranges spelled. c.in_err-key.ensures
+    (write_says format _ _ _ _ c.args.bytes.now spelled).0)
 
 pub is_request-requires : goal.is_request-requires
 is_request-requires c =
-    omega (arith, c.in-Some.ensures.fits)
+    omega (arith, c.in_ok-key.ensures.fits)
 
 pub returns-then-not-is_request : goal.returns-then-not-is_request
 returns-then-not-is_request c =
@@ -19,16 +20,16 @@ returns-then-not-is_request c =
     write_says format _ _ _ _ c.args.bytes.now spelled in cc
     (c.is_request.ensures.only says.1 says.2 says.3)
 
-pub head-head-requires : goal.head-head-requires
-head-head-requires c =
-    omega (arith, c.in-Some.ensures.fits)
+pub header-header-requires : goal.header-header-requires
+header-header-requires c =
+    omega (arith, c.in_ok-key.ensures.fits)
 
 pub returns : goal.returns
 returns c =
     λ format begun. (
-      λ i. Write (c.head-head.ensures.client i) (c.head-head.ensures.seq i)
-          (c.in-Some.ensures.key_is i) (c.in-Some.ensures.content_is i),
-      write_whole format c.args.bytes.now begun c.head-head.ensures.whole c.in-Some.ensures.whole
+      λ i. Write (c.header-header.ensures.client i) (c.header-header.ensures.seq i)
+          (c.in_ok-key.ensures.key_is i) (c.in_ok-key.ensures.content_is i),
+      write_whole format c.args.bytes.now begun c.header-header.ensures.whole c.in_ok-key.ensures.whole
           (c.is_request.ensures.version c.if-not-is_request.false)
           (c.is_request.ensures.server c.if-not-is_request.false)
           (c.is_request.ensures.switch c.if-not-is_request.false),

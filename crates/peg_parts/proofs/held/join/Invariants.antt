@@ -8,5 +8,5 @@ invariant-loop-place l = record {
       l.out.items
       ≡ flat_map (λ part. unwrap_or part []) (take l.place (set l.parts l.index (Some l.bytes)));
   long : length l.out.items ≤ 512 * l.place;
-  room : vec_capacity l.out ≡ vec_capacity l.fn.out;
+  room : vec_capacity l.fn.out ≤ vec_capacity l.out;
 }

@@ -21,7 +21,7 @@ loop-place-preserved c =
           ∙ ap (λ l. c.args.out.now.items ++ l)
           (ap (λ x. flat_map bytes (take i es) ++ bytes x) (sym at)
           ∙ sym (flat_next bytes es i e lt));
-      room = c.put_entry.ensures.room ∙ inv.room;
+      room = omega (arith, c.put_entry.ensures.room, inv.room);
       short = omega (arith, c.put_entry.ensures.short, inv.short);
       rising = all_next (λ item. is_rising item.1.holders) es i e lt inv.rising
           (ap (λ x. is_rising x.1.holders) at ∙ c.put_entry.ensures.rising);

@@ -9,7 +9,7 @@ invariant-loop-place l = record {
   items :
       l.out.items
       ≡ l.fn.out.items ++ flat_map (entry_bytes l.format) (take l.place l.directory.entries);
-  room : vec_capacity l.out ≡ vec_capacity l.fn.out;
+  room : vec_capacity l.fn.out ≤ vec_capacity l.out;
   short : length l.out.items ≤ length l.fn.out.items + 73 * l.place;
   rising : list_all (λ item. is_rising item.1.holders) (take l.place l.directory.entries) ≡ true;
 }

@@ -1,7 +1,6 @@
-use Rattle.std.proofs.Common.{◌+◌, drop, false, subst, arith}
+use Rattle.std.proofs.Common.{◌+◌, drop, subst, arith}
 use Rattle.peg_model.specs.Schedule.{fed}
 use Rattle.peg_model.specs.Trace.{ops_text, op_text}
-use Rattle.peg_session.specs.Pages.{Passes}
 use Rattle.peg_session.proofs.Passing.{IsOnTheWay, way_more, way_cut}
 use Rattle.peg_print.proofs.Tails.{ops_at}
 use Rattle.peg_print.proofs.tail.push_ops.Goals as goal

@@ -1,4 +1,4 @@
-use Rattle.std.proofs.Common.{ℕ, List, ◌++◌, codes, flat_map, map}
+use Rattle.std.proofs.Common.{ℕ, List, codes, flat_map, map}
 use Rattle.peg_history.specs.declared.KeyOrder.{KeyOrder}
 use Rattle.peg_model.specs.Schedule.{fed}
 use Rattle.peg_model.specs.Trace.{key_order_text}

@@ -1,7 +1,6 @@
-use Rattle.std.proofs.Common.{◌≡◌, ◌<◌, ◌==◌, ℕ, Bool, true, false, if◌then◌else◌, List, [], length}
+use Rattle.std.proofs.Common.{◌≡◌, ◌<◌, ◌==◌, ℕ, Bool, true, false, if◌then◌else◌, List, []}
 use Rattle.std.proofs.Common.{replicate, None, refl, sym, ap, subst, ◌∙◌, arith}
 use Rattle.std.proofs.lemmas.Bool.Decides.{nat_tests}
-use Rattle.std.proofs.lemmas.List.{length-replicate}
 use Rattle.peg_name.specs.Name.{Rack}
 use Rattle.peg_model.specs.Counts.{no_counts}
 use Rattle.peg_model.specs.Rules.{Core}
@@ -69,7 +68,7 @@ zero_is n h = grind (arith, nat_tests)
 other_is : (n : ℕ) → ¬ (n ≡ 0) → (n == 0) ≡ false
 other_is n h = grind (arith, nat_tests)
 
-mode_is : (c : goal.In_ok-make-6) → c.if-is_first.mode ≡ starts (c.args.id == 0)
+mode_is : (c : goal.In_ok-make-4) → c.if-is_first.mode ≡ starts (c.args.id == 0)
 mode_is c =
     elim c.if-is_first.branch [
       | then-is_first w ↦
@@ -82,7 +81,7 @@ mode_is c =
     ]
 
 keys_are :
-    (c : goal.In_ok-make-6)
+    (c : goal.In_ok-make-4)
     → c.if-is_first-2.make.now ≡ (if c.args.id == 0 then c.args.keys.now else [])
 keys_are c =
     let listed = λ (b : Bool). if b then c.args.keys.now else [] in
@@ -113,10 +112,6 @@ invariant_of-result c =
           ∙ may c.in_ok-make.field-0.rack (c.args.id == 0),
       ap (λ p. p.rack) c.in_ok-make-3.ensures ∙ sym core,
       ap (λ p. p.rack) c.in_ok-make-4.ensures ∙ sym core,
-      ap (λ s. length s.rows) c.in_ok-make-5.ensures
-          ∙ length-replicate c.args.config.now.clients (0, 0)
-          ∙ ap (λ (r : Rack). r.clients) (sym core),
-      ap (λ d. d.rack) c.in_ok-make-6.ensures ∙ sym core,
     )
 
 pub returns : goal.returns

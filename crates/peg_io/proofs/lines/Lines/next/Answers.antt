@@ -1,4 +1,4 @@
-use Rattle.std.proofs.Common.{◌<◌, ◌∙◌, length, sym, subst, ap, arith}
+use Rattle.std.proofs.Common.{◌<◌, ◌∙◌, length, subst, ap, arith}
 use Rattle.peg_io.specs.Lines.{ReadAhead, HasNoFeed}
 use Rattle.peg_io.proofs.Reading.{IsUnder_ready, IsUnder_more, gives_part, keeps_part, gives_last}
 use Rattle.peg_io.proofs.Reading.{keeps_end, gives_failed, keeps_failed}

@@ -10,19 +10,20 @@ pub loop-left-preserved : goal.loop-left-preserved
 loop-left-preserved c =
     let more : c.loop-left.left ≡ suc (c.loop-left.left - 1) = omega arith in (
       λ r. rows_down c.args.bytes.now c.loop-left.left (c.loop-left.left - 1) c.loop-left.at
-          c.in-Some.next more c.in-Some.ensures.next (c.loop-left.invariant.0 r),
+          c.in_ok-next.next more c.in_ok-next.ensures.next (c.loop-left.invariant.0 r),
       λ r. c.loop-left.invariant.1
           (rows_up c.args.bytes.now c.loop-left.left (c.loop-left.left - 1) c.loop-left.at
-          c.in-Some.next (λ i. omega (arith, c.type_inv.bytes i)) more
-          c.in-Some.ensures.next c.in-Some.ensures.row r),
+          c.in_ok-next.next (λ i. omega (arith, c.type_inv.bytes i)) more
+          c.in_ok-next.ensures.next c.in_ok-next.ensures.row r),
     )
 
-pub returns-in_default : goal.returns-in_default
-returns-in_default c =
-    let more : c.loop-left.left ≡ suc (c.loop-left.left - 1) = omega arith in
-    λ r. c.in_default.ensures.none
+pub returns-in_err-next : goal.returns-in_err-next
+returns-in_err-next c =
+    rw c.from_residual.ensures
+    (let more : c.loop-left.left ≡ suc (c.loop-left.left - 1) = omega arith in
+    λ r. c.in_err-next.ensures.none
     (rows_first c.args.bytes.now c.loop-left.left (c.loop-left.left - 1) c.loop-left.at more
-    (c.loop-left.invariant.0 r))
+    (c.loop-left.invariant.0 r)))
 
 pub overflow_sub-left : goal.overflow_sub-left
 overflow_sub-left c =

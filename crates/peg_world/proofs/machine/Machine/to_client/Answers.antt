@@ -11,7 +11,7 @@ use Rattle.peg_world.specs.Acting.{client_at, packet_read}
 use Rattle.peg_world.specs.Midway.{Midway, packet_at}
 use Rattle.peg_world.specs.Sound.{packet_in}
 use Rattle.peg_world.specs.Telling.{did_told, without}
-use Rattle.peg_world.proofs.Answering.{answer_full, answer_opens, answer_kept, answer_came}
+use Rattle.peg_world.proofs.Answering.{answer_opens, answer_kept, answer_came}
 use Rattle.peg_world.proofs.Delivering.{announced_at, read_at}
 use Rattle.peg_world.proofs.Taking.{restored}
 use Rattle.peg_world.proofs.machine.Machine.to_client.Goals as goal

@@ -1,0 +1,17 @@
+use Rattle.std.proofs.Common.{◌≡◌}
+use Rattle.std.specs.List.{list_all}
+use Rattle.peg_model.specs.Packet.{row_in_range}
+use Rattle.peg_model.specs.Reading.{rows_at}
+use Rattle.peg_packet.specs.Seen.{rows_seen}
+use Rattle.peg_grammar.specs.Rows.{RowsFrom}
+use Rattle.peg_packet.proofs.report.are_rows.Given as goal
+
+abbrev pub invariant-loop-left : goal.invariant-loop-left
+invariant-loop-left l =
+    RowsFrom l.bytes l.left l.at
+    ×
+    (list_all row_in_range (rows_seen l.fn.rows)
+    ≡ list_all row_in_range (rows_at l.bytes l.left l.at))
+
+abbrev pub decreases-loop-left : goal.decreases-loop-left
+decreases-loop-left l = l.left

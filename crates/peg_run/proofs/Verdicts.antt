@@ -1,0 +1,122 @@
+-- How the session of `check` ended, as `run` says it.
+use Rattle.std.proofs.Common.{◌≡◌, ◌≢◌, ◌⊎◌, ℕ, Bool, true, false, Option, None, List, []}
+use Rattle.std.proofs.Common.{refl, sym, subst, inl, inr}
+use Rattle.std.specs.Prelude.{◌==◌, ◌+◌, if◌then◌else◌}
+use Rattle.peg_io.specs.Outside.{Tells, Rose}
+use Rattle.peg_io.proofs.Telling.{Tells_as}
+use Rattle.peg_meaning.specs.Session as session
+use Rattle.peg_meaning.specs.Session.{Inputs, Begin, More, Input, Came, IsTaken, IsTurn, after}
+use Rattle.peg_meaning.specs.Session.{came_of, state_of, text_of, entries_of, saying}
+use Rattle.peg_meaning.specs.CheckWord.{CheckEntry, Checked, Checker, Stage, Skipping, Reading}
+use Rattle.peg_meaning.specs.CheckWord.{Finished, judges, check_start, check_on, check_want}
+use Rattle.peg_word_law.specs.Judged.{IsJudged, HasJudged}
+use Rattle.peg_session.specs.Ends as ends
+use Rattle.peg_session.specs.Ends.{Told, told, Ended, MayEnd, IsRead, IsNear}
+use Rattle.peg_session.specs.declared.End.{End}
+use Rattle.peg_session.specs.declared.End.TheVariants as end
+use Rattle.peg_session.proofs.Standings.{not_begun}
+use Rattle.peg_run.specs.Ends.{HasCause}
+use Rattle.peg_run.specs.Status.{status_of}
+use Rattle.peg_run.specs.Verdicts.{EndsAs, IsVerdict}
+use Rattle.peg_run.specs.declared.Status.{Status}
+use Rattle.peg_run.specs.declared.Status.TheVariants as status
+
+-- there was no memory to begin
+pub begins_not : (before : Told) → EndsAs judges check_start status.OutOfMemory before before
+begins_not before = (end.OutOfMemory, refl, not_begun judges _ [] [] before)
+
+-- ---- what was written
+
+judged_by :
+    (stage : Stage) (entries : List CheckEntry) (text : List ℕ) → MayEnd (check_want stage)
+    → HasJudged entries stage text → (c : Checked) × IsJudged entries c text
+judged_by Skipping entries text over judged = let never : false ≡ true = over in absurd (cc)
+judged_by (Reading c) entries text over judged = let never : false ≡ true = over in absurd (cc)
+judged_by (Finished c) entries text over judged = (c, judged)
+
+abbrev Law : Type 0
+Law = (inputs : Inputs CheckEntry) → IsTaken judges check_start inputs
+    → HasJudged (entries_of inputs) (state_of judges check_start inputs).stage
+    (text_of judges check_start inputs)
+
+module _ (l l' h h' : Option (List ℕ)) where
+  pub verdict_of_done :
+      Law → Ended judges check_start (told l h None 0) (told l' h' None 0) end.Done
+      → IsVerdict l l' h h'
+  verdict_of_done law done =
+      let inputs = done.inputs in
+      let judged = judged_by (state_of judges check_start inputs).stage (entries_of inputs)
+      (text_of judges check_start inputs) done.over (law inputs done.taken) in
+      record {
+        inputs = inputs;
+        checked = judged.0;
+        text = text_of judges check_start inputs;
+        read = Tells_as l l' _ _ (λ b n r. (r.0, r.1, r.3)) done.read;
+        judged = judged.1;
+        written = done.written;
+      }
+
+-- ---- nothing is bound, and no turn is taken
+
+no_turn : (stage : Stage) → IsTurn (check_want stage) → ⊥
+no_turn Skipping turn = turn
+no_turn (Reading c) turn = turn
+no_turn (Finished c) turn = turn
+
+line_unbound :
+    (b : Bool) (s s' : Checker) (text : List ℕ)
+    → (after s (if b then session.Past else session.Goes (saying s' text))).binds ≡ []
+line_unbound true s s' text = refl
+line_unbound false s s' text = refl
+
+step_unbound : (s : Checker) (x : Input CheckEntry) → (after s (check_on s x)).binds ≡ []
+step_unbound s (session.Entry e) = line_unbound (s.lines == 2000000) s _ _
+step_unbound s (session.Datagram bytes) = refl
+step_unbound s session.Quiet = refl
+step_unbound s session.Tick = refl
+
+unbound : (inputs : Inputs CheckEntry) → (came_of judges check_start inputs).binds ≡ []
+unbound Begin = refl
+unbound (More inputs x) = step_unbound (state_of judges check_start inputs) x
+
+heard : (before now : Told) → Ended judges check_start before now end.WireFault → ⊥
+heard before now unheard = by unheard.carried
+  where
+    by : (IsTurn (check_want (state_of judges check_start unheard.inputs).stage)
+        × ends.IsCarried judges check_start before now unheard.inputs)
+        ⊎ (((came_of judges check_start unheard.inputs).binds ≢ [])
+        × Tells before.carried now.carried
+        (λ c n. ends.BindsSome (came_of judges check_start unheard.inputs).binds
+        (session.heard_of judges check_start before.slots c unheard.inputs) n))
+        → ⊥
+    by (inl turn) = no_turn (state_of judges check_start unheard.inputs).stage turn.0
+    by (inr some) = some.0 (unbound unheard.inputs)
+
+pub no_wire_fault :
+    (before now : Told) (e : End) → Ended judges check_start before now e
+    → status_of e ≡ status.WireFault → ⊥
+no_wire_fault before now end.Done ended is = cc
+no_wire_fault before now end.OutOfMemory ended is = cc
+no_wire_fault before now end.ReadFault ended is = cc
+no_wire_fault before now end.WriteFault ended is = cc
+no_wire_fault before now end.WireFault ended is = heard before now ended
+no_wire_fault before now (end.BadInput line) ended is = cc
+no_wire_fault before now (end.TooMuch line) ended is = cc
+
+pub no_usage : (e : End) → status_of e ≡ status.Usage → ⊥
+no_usage end.Done is = cc
+no_usage end.OutOfMemory is = cc
+no_usage end.ReadFault is = cc
+no_usage end.WriteFault is = cc
+no_usage end.WireFault is = cc
+no_usage (end.BadInput line) is = cc
+no_usage (end.TooMuch line) is = cc
+
+pub done_by : (e : End) → status_of e ≡ status.Done → e ≡ end.Done
+done_by end.Done is = refl
+done_by end.OutOfMemory is = cc
+done_by end.ReadFault is = cc
+done_by end.WriteFault is = cc
+done_by end.WireFault is = cc
+done_by (end.BadInput line) is = cc
+done_by (end.TooMuch line) is = cc
