@@ -1,5 +1,5 @@
 -- What a line says behind the line history.
-use Rattle.std.proofs.Common.{◌≡◌, ◌≤◌, ◌<◌, ◌+◌, ◌^◌, ◌++◌, ℕ, zero, suc, Bool, true, false, ◌&&◌}
+use Rattle.std.proofs.Common.{◌≡◌, ◌≤◌, ◌<◌, ◌^◌, ◌++◌, ℕ, zero, suc, Bool, true, false, ◌&&◌}
 use Rattle.std.proofs.Common.{Option, Some, None, List, [], ◌∷◌, length, get_or, codes, decimal, refl, sym}
 use Rattle.std.proofs.Common.{ap, ◌∙◌, subst, arith, nat_lt, ◌⊎◌, inl, inr}
 use Rattle.std.specs.Prelude.{nat_eq, not, drop, ◌||◌}

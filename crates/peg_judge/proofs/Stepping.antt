@@ -1,5 +1,5 @@
 -- What a check makes of a line, as its meaning has it.
-use Rattle.std.proofs.Common.{◌≡◌, ◌≤◌, ◌<◌, ◌+◌, ◌-◌, ◌==◌, ℕ, zero, suc, Bool, true, false, Option}
+use Rattle.std.proofs.Common.{◌≡◌, ◌<◌, ◌+◌, ◌==◌, ℕ, zero, suc, Bool, true, false, Option}
 use Rattle.std.proofs.Common.{Some, None, if◌then◌else◌, List, [], ◌∷◌, ◌++◌, length, map, get_or, set}
 use Rattle.std.proofs.Common.{refl, sym, ap, ◌∙◌, arith}
 use Rattle.std.proofs.lemmas.List.{map_push}
@@ -9,7 +9,6 @@ use Rattle.indexmap.specs.IndexSet.{insert_key}
 use Rattle.peg_event.specs.declared.Op.{Op}
 use Rattle.peg_model.specs.Words.{is_in}
 use Rattle.peg_model.specs.Order.{first_keys, keys_in}
-use Rattle.peg_model.specs.Judge.{IsSkipped}
 use Rattle.peg_meaning.specs.Session as session
 use Rattle.peg_meaning.specs.Session.{Answer, Goes, Past, saying, IsOnly}
 use Rattle.peg_meaning.specs.CheckWord as word
@@ -23,7 +22,7 @@ use Rattle.peg_history.specs.declared.KeyOrder.{KeyOrder}
 use Rattle.peg_history.specs.Walking.{order_pair}
 use Rattle.peg_session.specs.declared.Stepped.{Stepped}
 use Rattle.peg_session.specs.declared.Stepped.TheVariants as stepped
-use Rattle.peg_session.specs.Took.{DidGo, WasCut, Kept, Took, TookLine}
+use Rattle.peg_session.specs.Took.{DidGo, Took, TookLine}
 use Rattle.peg_session.proofs.Passing.{passes_nothing}
 use Rattle.peg_judge.specs.declared.reading.Entry.{Entry}
 use Rattle.peg_judge.specs.declared.reading.Entry.TheVariants as entry

@@ -249,7 +249,8 @@ impl Reading {
         requires on { self.old.is_over ≡ false }
         requires here { IsHere (checked_of self.old) entry.now }
         requires few { lines < 2000000 }
-        ensures took { Took judges (checker_at lines self.old) (session.Entry (said entry.now)) result
+        ensures took { Took judges (checker_at lines self.old) (session.Entry (said entry.now))
+            result
             (checker_at (lines + 1) self.new) [] []
             page.old page.new (K.held sink.old) (K.held sink.new) }
         ensures tied { result ≡ Stepped.Goes → IsTied self.new }

@@ -8,6 +8,7 @@ use Rattle.peg_model.specs.Schedule.{IsStart}
 use Rattle.peg_model.specs.Trace.{replay_text}
 use Rattle.peg_model.specs.Headline.{IsLinearizable, OrdersAreHistories}
 use Rattle.peg_law.specs.Lines.{IsLine}
+use Rattle.peg_trace.specs.Answers.{AreTold}
 use Rattle.peg_io.specs.Outside.{Tells, Appends}
 use Rattle.peg_run.specs.Ends.{ShowsRegisters, IsDone, Ended}
 use Rattle.peg_run.specs.declared.Status.{Status}
@@ -25,7 +26,7 @@ abbrev pub Texts : Type 0
 Texts =
     (rack : Rack) (keys : List (List ℕ)) (events : List Event)
     → OrdersAreHistories (run (start rack keys) 2 events).0
-    → IsLinearizable (replay_text rack keys events)
+    → (plain : IsLinearizable (replay_text rack keys events)) × AreTold plain.trace plain.ops
 
 -- all that was appended at the end is
 done_shows :
@@ -33,12 +34,15 @@ done_shows :
     → Tells held held' ShowsRegisters
 done_shows left left' held held' histories texts done =
     Tells_as held held' (Appends (replay_text done.rack done.keys done.events)) ShowsRegisters
-    (λ before now is. (
-      replay_text done.rack done.keys done.events,
-      is,
-      texts done.rack done.keys done.events
-          (histories done.rack done.keys done.events done.begins done.lines),
-    )) done.written
+    (λ before now is. (replay_text done.rack done.keys done.events, is, told.0, told.1))
+    done.written
+  where
+    told :
+        (plain : IsLinearizable (replay_text done.rack done.keys done.events))
+        × AreTold plain.trace plain.ops
+    told =
+        texts done.rack done.keys done.events
+        (histories done.rack done.keys done.events done.begins done.lines)
 
 pub histories_told :
     (left left' held held' : Option (List ℕ)) (s : Status) → Histories → Texts

@@ -1,7 +1,8 @@
 -- What holds where `replay` ends with a status. The source and the sink are each seen as what they
 -- told when the call began and when it ends.
 --     job_in words      the job that the words call for
---     ShowsRegisters      what was appended shows one plain register for each key
+--     ShowsRegisters      what was appended shows one plain register for each key, and each line of
+--         it that says so answers one operation
 --     IsDone, IsBadAt, IsTooMuchAt, IsUnread, IsCut      the ends
 --     IsNearLine, IsNearBad, IsAhead      how far the bytes that were taken go
 --     Ended status      all that holds at this status, and that a schedule within the limits
@@ -18,6 +19,7 @@ use Rattle.peg_model.specs.Schedule.{IsStart, IsEventLine}
 use Rattle.peg_model.specs.Trace.{replay_text}
 use Rattle.peg_model.specs.Headline.{IsLinearizable}
 use Rattle.peg_law.specs.Lines.{IsLine}
+use Rattle.peg_trace.specs.Answers.{AreTold}
 use Rattle.peg_io.specs.Outside.{Tells, Appends, Rose}
 use Rattle.peg_io.specs.Lines.{line_of, past_line, HasNoFeed}
 use Rattle.peg_session.specs.Pages.{AppendsPart, AppendsMore}
@@ -32,10 +34,11 @@ use Rattle.peg_run.specs.declared.Status.TheVariants as status
 abbrev pub job_in : List (String Global) → Option Job
 job_in words = job_of (map string_bytes words)
 
--- what was appended is linearizable, whatever the source told
+-- what was appended is linearizable, and its lines answer its operations, whatever the source told
 abbrev pub ShowsRegisters : List ℕ → List ℕ → Type 0
 ShowsRegisters before now =
-    (output : List ℕ) × (now ≡ before ++ output) × IsLinearizable output
+    (output : List ℕ) × (now ≡ before ++ output) × (plain : IsLinearizable output)
+    × AreTold plain.trace plain.ops
 
 -- ---- the ends
 

@@ -2,6 +2,9 @@ pub mod Lists
 pub mod Operations
 pub mod Events
 pub mod Turns
+pub mod Tied
+pub mod Begun
+pub mod Taken
 pub mod Told
 pub mod Runs
 pub mod Sample

@@ -18,18 +18,19 @@ stopped :
     (halt : Halt) (old mid now : Midway) (place : ℕ) (after : World × Line)
     → Closes mid now place (Err halt)
     → mid.world.packets ≡ old.world.packets → mid.world.operations ≡ old.world.operations
-    → mid.world.rack ≡ old.world.rack
+    → mid.world.rack ≡ old.world.rack → mid.world.place ≡ old.world.place
     → length after.0.packets ≡ length mid.world.packets + length mid.sent
     → Came old now place after (Err halt)
-stopped halts.OutOfMemory old mid now place after closes packets operations rack count =
+stopped halts.OutOfMemory old mid now place after closes packets operations rack at count =
     absurd closes
-stopped halts.TooMuch old mid now place after closes packets operations rack count =
+stopped halts.TooMuch old mid now place after closes packets operations rack at count =
     let same : now.world ≡ mid.world = ap (λ (m : Midway). m.world) closes.0 in
     record {
       comes = (
         ap (λ (w : World). w.packets) same ∙ packets,
         ap (λ (w : World). w.operations) same ∙ operations,
         omega (arith, closes.1, count),
+        ap (λ (w : World). w.place) same ∙ at,
       );
       at = tt;
       rack = ap (λ (w : World). w.rack) same ∙ rack;
@@ -88,5 +89,6 @@ module _
         stopped halt old mid now place (book old.world) closes
         (ap (λ (w : World). w.packets) seen) (ap (λ (w : World). w.operations) seen)
         (ap (λ (n : Acting). n.rack) same ∙ rack ∙ ap (λ (w : World). w.rack) seen)
+        (ap (λ (w : World). w.place) seen)
         (ap (λ w. length (book w).0.packets) (sym seen) ∙ count
         ∙ ap (λ (n : Acting). length packets + length n.sent) (sym same))

@@ -15,3 +15,6 @@ pub mod Answering
 pub mod Distinct
 pub mod Delivering
 pub mod Switching
+pub mod Bytes
+pub mod Orders
+pub mod OfRun

@@ -43,7 +43,7 @@ abbrev pub Stopped : Halt → Midway → Midway → World × Line → Type 0
 Stopped halt.OutOfMemory old now after = (now.world ≡ old.world) × (now.sent ≡ old.sent)
 Stopped halt.TooMuch old now after =
     (now.world.packets ≡ old.world.packets) × (now.world.operations ≡ old.world.operations)
-    × (200000 < length after.0.packets)
+    × (200000 < length after.0.packets) × (now.world.place ≡ old.world.place)
 
 abbrev pub Comes : Midway → Midway → World × Line → Result Said Halt → Type 0
 Comes old now after (Ok said) = Happened now after said

@@ -7,15 +7,22 @@
 --     is_past r place event      whether the event is past a limit: it is the 1,000,001st, or its
 --         packets would pass 200,000, or an earlier event was past a limit
 --     Halted halt old now      what holds after a halt
---     IsRun machine events is_over      what is kept between two events
+--     IsRun machine events is_over      what is kept between two events: until it is over, the
+--         world is that of a run, and after it is over it still shows one
+--     AreHistories ops orders      each order is a register history of its key
 use Rattle.std.specs.Prelude.{◌≡◌, ◌+◌, ◌≤◌, ℕ, Bool, false, ◌||◌, nat_le, nat_lt, List, []}
 use Rattle.std.specs.Prelude.{length, IsTrue, Option, None}
+use Rattle.std.specs.List.{AllByRecursion}
 use Rattle.peg_name.specs.Name.{Rack}
 use Rattle.peg_event.specs.declared.Event.{Event}
 use Rattle.peg_event.specs.declared.Line.{Line}
 use Rattle.peg_event.specs.declared.Said.{Said}
 use Rattle.peg_event.specs.declared.Said.TheVariants as said
+use Rattle.peg_event.specs.declared.Op.{Op}
+use Rattle.peg_model.specs.Register.{IsRegisterHistory}
 use Rattle.peg_model.specs.World.{World, start, step}
+use Rattle.peg_law.specs.OfRun.{IsWorldOfRun, ShowsRun}
+use Rattle.peg_history.specs.declared.KeyOrder.{KeyOrder}
 use Rattle.peg_world.specs.Midway.{Midway}
 use Rattle.peg_world.specs.Telling.{said_told}
 use Rattle.peg_world.specs.declared.Halt.{Halt}
@@ -49,14 +56,20 @@ is_past r place e =
     r.is_over
     || (nat_le 1000000 r.events || nat_lt 200000 (length (step r.world place e).0.packets))
 
--- the packets and the operations are as before, and it stays over
+-- the place, the packets and the operations are as before, and it stays over
 abbrev pub Halted : Halt → Running → Running → Type 0
 Halted halt.OutOfMemory old now = now ≡ old
 Halted halt.TooMuch old now =
     IsTrue now.is_over × (now.world.rack ≡ old.world.rack)
     × (now.world.packets ≡ old.world.packets) × (now.world.operations ≡ old.world.operations)
+    × (now.world.place ≡ old.world.place)
 
 pub record IsRun (m : Midway) (events : ℕ) (is_over : Bool) : Type 0 where
   pub sent : is_over ≡ false → m.sent ≡ []
   pub counted : length m.world.operations ≤ events
   pub limited : events ≤ 1000000
+  pub shows : ShowsRun m.world
+  pub of_run : is_over ≡ false → IsWorldOfRun m.world
+
+abbrev pub AreHistories : List Op → List KeyOrder → Type 0
+AreHistories ops orders = AllByRecursion (λ o. IsRegisterHistory ops o.key o.ops) orders

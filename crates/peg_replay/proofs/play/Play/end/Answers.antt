@@ -35,7 +35,7 @@ returns-then-not-push_tail-clause-took g c =
           end_on s.rack.0 s.rack.1 s.world s.is_over (s.place + 1) c.history.result.now.ops
           (map key_order c.deref.result.now) c.requires.on (omega (arith, c.requires.tied.count))
           c.history.ensures
-          (orders_as s.world.world c.deref.result.now (c.deref.ensures.value ∙ c.in-Ok.ensures));
+          (orders_as s.world.world c.deref.result.now (c.deref.ensures.value ∙ c.in-Ok.ensures.orders));
       over =
           passes_then false (fed (decimal (s.place + 1) ++ codes " end")) tail c.args.page.now
           c.push_end.new.page c.push_tail.new.page (g.K.Sink.held c.args.sink.now)
@@ -53,7 +53,7 @@ returns-clause-took g c =
           end_on s.rack.0 s.rack.1 s.world s.is_over (s.place + 1) c.history.result.now.ops
           (map key_order c.deref.result.now) c.requires.on (omega (arith, c.requires.tied.count))
           c.history.ensures
-          (orders_as s.world.world c.deref.result.now (c.deref.ensures.value ∙ c.in-Ok.ensures));
+          (orders_as s.world.world c.deref.result.now (c.deref.ensures.value ∙ c.in-Ok.ensures.orders));
       over =
           passes_then true (fed (decimal (s.place + 1) ++ codes " end")) tail c.args.page.now
           c.push_end.new.page c.push_tail.new.page (g.K.Sink.held c.args.sink.now)
