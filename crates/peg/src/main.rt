@@ -1,7 +1,8 @@
-//! The program `peg`: its words, its standard input and its standard output, and no wire.
+//! The program `peg`: its words, its standard input and its standard output, and a wire of UDP
+//! sockets, which a word binds where it needs them.
 #![tactic(auto)]
 
-use peg_io::{NoWire, StdSink, StdSource};
+use peg_io::{StdSink, StdSource, UdpWire};
 use peg_run::{Status, run};
 use std::alloc::Global;
 use std::env::{self, Env};
@@ -10,13 +11,16 @@ use std::process::ExitCode;
 
 fn main(rt: HostRuntime) -> ExitCode {
     let status = match words_given(&rt) {
-        Ok(words) => run(
-            rt.alloc(),
-            words.as_slice(),
-            &mut StdSource::make(rt.stdin()),
-            &mut StdSink::make(io::writer(&rt)),
-            &mut NoWire::make(),
-        ),
+        Ok(words) => match UdpWire::make(rt.alloc(), &rt) {
+            Ok(mut wire) => run(
+                rt.alloc(),
+                words.as_slice(),
+                &mut StdSource::make(rt.stdin()),
+                &mut StdSink::make(io::writer(&rt)),
+                &mut wire,
+            ),
+            Err(_) => Status::OutOfMemory,
+        },
         Err(status) => status,
     };
     if status != Status::Done {

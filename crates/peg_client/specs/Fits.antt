@@ -3,9 +3,9 @@
 --     pending_fits format pending      the same of a pending operation, whose number is at least 1
 use Rattle.std.specs.Prelude.{Bool, true, ◌&&◌, nat_lt, Option, Some, None}
 use Rattle.peg_name.specs.declared.Format.{Format}
-use Rattle.peg_event.specs.declared.Ask.{Ask}
-use Rattle.peg_event.specs.declared.Ask.TheVariants.{Read, Write}
-use Rattle.peg_event.specs.declared.Pending.{Pending}
+use Rattle.peg_event.specs.declared.answers.Ask.{Ask}
+use Rattle.peg_event.specs.declared.answers.Ask.TheVariants.{Read, Write}
+use Rattle.peg_event.specs.declared.answers.Pending.{Pending}
 use Rattle.peg_model.specs.Packet.{is_written}
 
 abbrev pub ask_fits : Format → Ask → Bool

@@ -5,10 +5,10 @@
 --     client_of, IsClient client      what the fields hold, and what they keep
 use Rattle.std.specs.Prelude.{◌≡◌, ◌≤◌, ℕ, true, List, Option, Some, None, option_map, take}
 use Rattle.std.specs.Prelude.{length}
-use Rattle.peg_name.specs.declared.Content.TheVariants.{Absent, Present}
-use Rattle.peg_event.specs.declared.Ask.{Ask}
-use Rattle.peg_event.specs.declared.Ask.TheVariants as ask
-use Rattle.peg_event.specs.declared.Pending.{Pending}
+use Rattle.peg_name.specs.declared.value.Content.TheVariants.{Absent, Present}
+use Rattle.peg_event.specs.declared.answers.Ask.{Ask}
+use Rattle.peg_event.specs.declared.answers.Ask.TheVariants as ask
+use Rattle.peg_event.specs.declared.answers.Pending.{Pending}
 use Rattle.peg_model.specs.Packet.{is_client}
 use Rattle.peg_model.specs.Client.{Client}
 use Rattle.peg_client.specs.Fits.{pending_fits}

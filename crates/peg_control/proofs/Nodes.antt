@@ -14,12 +14,12 @@ use Rattle.peg_name.specs.declared.Row.{Row}
 use Rattle.peg_event.specs.declared.Command.{Command}
 use Rattle.peg_event.specs.declared.ControlDid.{ControlDid}
 use Rattle.peg_event.specs.declared.ControlDid.TheVariants as did
-use Rattle.peg_event.specs.declared.Order.{Order}
-use Rattle.peg_event.specs.declared.Order.TheVariants as order
+use Rattle.peg_event.specs.declared.answers.Order.{Order}
+use Rattle.peg_event.specs.declared.answers.Order.TheVariants as order
 use Rattle.peg_event.specs.declared.Outcome.{Outcome}
 use Rattle.peg_event.specs.declared.Outcome.TheVariants.{Activated}
-use Rattle.peg_event.specs.declared.Plan.{Plan}
-use Rattle.peg_event.specs.declared.Plan.TheVariants as plan
+use Rattle.peg_event.specs.declared.answers.Plan.{Plan}
+use Rattle.peg_event.specs.declared.answers.Plan.TheVariants as plan
 use Rattle.peg_model.specs.Words.{below, last_number, Step, refuse}
 use Rattle.peg_model.specs.Packet.{Packet, Announce, CommandAck, Report}
 use Rattle.peg_model.specs.Reading.{packet_of, is_format}

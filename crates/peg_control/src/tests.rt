@@ -5,6 +5,7 @@ use crate::*;
 use peg_event::Outcome;
 use peg_name::{Format, Row};
 use peg_packet::{Rows, What, acknowledge, encode, is_in_range};
+use std::process::Abort;
 use std::test::Fail;
 
 /// Whether the outbox can take whatever one call puts in it.
@@ -15,6 +16,21 @@ fn is_ready(controller: &Controller, post: &Post) -> bool
 {
     let free = (post.slots() - post.len()) as u64;
     post.format() == controller.config().format() && controller.config().clients() < free
+}
+
+/// The controller takes the packet, and says what it did.
+fn takes(
+    rt: &impl Abort,
+    controller: &mut Controller,
+    post: &mut Post,
+    packet: &Packet<'_>,
+    did: ControlDid,
+) {
+    let mut bytes = [0; 1152];
+    assert!(rt; is_in_range(Format::One, packet));
+    let len = encode(Format::One, packet, &mut bytes);
+    assert!(rt; len <= 1152 && is_ready(controller, post));
+    assert_eq!(rt; controller.step(&bytes[..len], post), did);
 }
 
 #[test]
@@ -33,7 +49,6 @@ fn one_command_is_pending_at_most(rt: HostRuntime) -> Result<(), Fail> {
         (1, Outcome::Marked(3), Some(ControlDid::OutOfPlace)),
         (1, Outcome::Activated(2), Some(ControlDid::OutOfPlace)),
     ];
-    let mut bytes = [0; 1152];
     for (number, outcome, refused) in cases {
         let mut controller = Controller::make(rt.alloc(), &config, &keys)?;
         let mut post = Post::make(rt.alloc(), config.format(), 4)?;
@@ -49,11 +64,8 @@ fn one_command_is_pending_at_most(rt: HostRuntime) -> Result<(), Fail> {
             Order::Busy { pending: 1 }
         );
         let packets = [acknowledge(number, outcome)];
-        assert!(rt; is_in_range(Format::One, &packets[0]));
-        let len = encode(Format::One, &packets[0], &mut bytes);
         let did = refused.unwrap_or(ControlDid::Took { number, outcome });
-        assert!(rt; len <= 1152 && is_ready(&controller, &post));
-        assert_eq!(rt; controller.step(&bytes[..len], &mut post), did);
+        takes(&rt, &mut controller, &mut post, &packets[0], did);
         assert_eq!(rt; controller.pending().is_none(), refused.is_none());
         assert_eq!(rt; post.len(), 1);
     }
@@ -90,19 +102,13 @@ fn a_handover_moves_the_clients(rt: HostRuntime) -> Result<(), Fail> {
     assert!(rt; is_ready(&controller, &post));
     assert_eq!(rt; controller.retry(&mut post), Retry::Command { number: 1 });
     let packets = [acknowledge(1, Outcome::Activated(2))];
-    assert!(rt; is_in_range(Format::One, &packets[0]));
-    let mut bytes = [0; 1152];
-    let len = encode(Format::One, &packets[0], &mut bytes);
     let took = ControlDid::Took {
         number: 1,
         outcome: Outcome::Activated(2),
     };
-    assert!(rt; len <= 1152 && is_ready(&controller, &post));
-    assert_eq!(rt; controller.step(&bytes[..len], &mut post), took);
-    assert_eq!(rt;
-        (controller.current(), controller.epoch()),
-        (SwitchId(1), 2)
-    );
+    takes(&rt, &mut controller, &mut post, &packets[0], took);
+    assert_eq!(rt; controller.current(), SwitchId(1));
+    assert_eq!(rt; controller.epoch(), 2);
     assert!(rt; is_ready(&controller, &post));
     assert_eq!(rt; controller.retry(&mut post), Retry::Announced { epoch: 2 });
     assert_eq!(rt; post.len(), 6);
@@ -159,12 +165,8 @@ fn a_plan_promotes_the_hot_key(rt: HostRuntime) -> Result<(), Fail> {
         total: 5,
         rows: Rows::write(&rows, &mut out),
     }];
-    assert!(rt; is_in_range(Format::One, &reports[0]));
-    let mut bytes = [0; 1152];
-    let len = encode(Format::One, &reports[0], &mut bytes);
-    assert!(rt; len <= 1152 && is_ready(&controller, &post));
-    let did = controller.step(&bytes[..len], &mut post);
-    assert_eq!(rt; did, ControlDid::HasReport { rows: 2 });
+    let did = ControlDid::HasReport { rows: 2 };
+    takes(&rt, &mut controller, &mut post, &reports[0], did);
     assert!(rt; is_ready(&controller, &post));
     let planned = Plan::Planned {
         demotes: 0,
@@ -176,10 +178,9 @@ fn a_plan_promotes_the_hot_key(rt: HostRuntime) -> Result<(), Fail> {
         what: What::Promote { key: b"k" },
     }];
     assert!(rt; is_in_range(Format::One, &commands[0]));
+    let mut bytes = [0; 1152];
     let len = encode(Format::One, &commands[0], &mut bytes);
     assert!(rt; len <= 1152 && post.len() == 1);
-    let (to, sent) = post.item(0);
-    assert_eq!(rt; to, Node::Switch(SwitchId(0)));
-    assert_eq!(rt; sent, &bytes[..len]);
+    assert_eq!(rt; post.item(0), (Node::Switch(SwitchId(0)), &bytes[..len]));
     Ok(())
 }

@@ -7,9 +7,9 @@ use Rattle.std.specs.Map.{set_value, remove_entry}
 use Rattle.indexmap.specs.IndexMap.{set_value_at}
 use Rattle.peg_name.specs.declared.Note.{Note}
 use Rattle.peg_name.specs.declared.Note.TheVariants.{Removed}
-use Rattle.peg_event.specs.declared.Listing.{Listing}
-use Rattle.peg_event.specs.declared.Promoted.{Promoted}
-use Rattle.peg_event.specs.declared.Promoted.TheVariants.{Full, Listed}
+use Rattle.peg_event.specs.declared.answers.Listing.{Listing}
+use Rattle.peg_event.specs.declared.answers.Promoted.{Promoted}
+use Rattle.peg_event.specs.declared.answers.Promoted.TheVariants.{Full, Listed}
 use Rattle.peg_model.specs.Rules.{Directory, mark_of, mark_over, mark_key, note_of}
 use Rattle.peg_model.specs.Rules.{note_reply, reported, ends, entry_of, list_key, list_unless}
 use Rattle.peg_model.specs.Rules.{new_listing}

@@ -14,7 +14,7 @@ use Rattle.std.specs.Str.{bytes_eq}
 use Rattle.indexmap.specs.IndexMap.{set_value_at}
 use Rattle.peg_name.specs.Name.{Rack, IsKey}
 use Rattle.peg_name.specs.Holders.{with_holder}
-use Rattle.peg_event.specs.declared.Listing.{Listing}
+use Rattle.peg_event.specs.declared.answers.Listing.{Listing}
 use Rattle.peg_model.specs.Words.{is_in}
 use Rattle.peg_model.specs.Packet.{are_distinct, is_number, is_key}
 use Rattle.peg_model.specs.Handover.{is_entry, is_mark}

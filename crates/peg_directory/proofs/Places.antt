@@ -6,7 +6,7 @@ use Rattle.std.specs.Map.{keys_of, set_value}
 use Rattle.std.specs.Str.{bytes_eq}
 use Rattle.indexmap.specs.IndexMap.{set_value_at}
 use Rattle.indexmap.proofs.MapLemmas.{Found-position}
-use Rattle.peg_event.specs.declared.Listing.{Listing}
+use Rattle.peg_event.specs.declared.answers.Listing.{Listing}
 use Rattle.peg_model.specs.Rules.{Directory, entry_of}
 use Rattle.peg_directory.specs.Table.{IsAt}
 

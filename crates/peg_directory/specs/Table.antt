@@ -10,7 +10,7 @@ use Rattle.std.specs.Str.{bytes_eq}
 use Rattle.indexmap.specs.IndexMap.{set_value_at}
 use Rattle.peg_name.specs.Name.{Rack}
 use Rattle.peg_model.specs.Packet.{are_distinct}
-use Rattle.peg_event.specs.declared.Listing.{Listing}
+use Rattle.peg_event.specs.declared.answers.Listing.{Listing}
 use Rattle.peg_model.specs.Rules.{Directory, entry_of}
 use Rattle.peg_model.specs.Handover.{is_entry}
 

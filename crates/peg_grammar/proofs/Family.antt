@@ -3,7 +3,7 @@ use Rattle.std.proofs.Common.{◌≡◌, ℕ, ◌^◌, ◌<◌, Some, List, [], 
 use Rattle.std.proofs.Common.{◌∙◌, arith, append_assoc}
 use Rattle.std.proofs.Math.Seq.{take-append_seam}
 use Rattle.peg_name.specs.declared.Format.{Format}
-use Rattle.peg_name.specs.declared.Content.{Content}
+use Rattle.peg_name.specs.declared.value.Content.{Content}
 use Rattle.peg_model.specs.Packet.{Read, Write, ToServerRead, ToServerWrite, ReadReply, WriteReply}
 use Rattle.peg_model.specs.Packet.{Void, family, content_bytes, spelling}
 use Rattle.peg_model.specs.Reading.{content_at, past_key}

@@ -4,7 +4,7 @@ use Rattle.std.proofs.Common.{ap, ◌∙◌, arith}
 use Rattle.std.specs.List.{flat_map, AllByRecursion}
 use Rattle.std.proofs.Math.Seq.{take-append_seam}
 use Rattle.peg_name.specs.declared.Format.{Format}
-use Rattle.peg_name.specs.declared.Content.{Content}
+use Rattle.peg_name.specs.declared.value.Content.{Content}
 use Rattle.peg_name.specs.declared.Row.{Row}
 use Rattle.peg_event.specs.declared.Outcome.{Outcome}
 use Rattle.peg_event.specs.declared.Outcome.TheVariants as outcome

@@ -4,7 +4,7 @@ use Rattle.std.proofs.Common.{sym, arith, append-nil}
 use Rattle.std.proofs.lemmas.List.{drop_all, append_cancel_left}
 use Rattle.std.specs.List.{flat_map}
 use Rattle.peg_name.specs.declared.Format.{Format}
-use Rattle.peg_name.specs.declared.Content.{Content}
+use Rattle.peg_name.specs.declared.value.Content.{Content}
 use Rattle.peg_name.specs.declared.Row.{Row}
 use Rattle.peg_event.specs.declared.Outcome.{Outcome}
 use Rattle.peg_model.specs.Packet.{What, Read, Write, ToServerRead, ToServerWrite, ReadReply}

@@ -18,7 +18,7 @@ use Rattle.peg_name.specs.declared.Format.TheVariants.{One, Two}
 use Rattle.peg_model.specs.Packet.{two, eight, key_bytes, is_number, is_positive, is_key}
 use Rattle.peg_model.specs.Packet.{are_distinct}
 use Rattle.peg_model.specs.Reading.{one_at, two_at, eight_at, key_at, past_key}
-use Rattle.peg_event.specs.declared.Listing.{Listing}
+use Rattle.peg_event.specs.declared.answers.Listing.{Listing}
 use Rattle.peg_model.specs.Rules.{Directory}
 use Rattle.peg_model.specs.Handover.{State, stamp_bytes, entry_bytes, holder_bytes, holder_width}
 use Rattle.peg_model.specs.Handover.{holders_at, state_bytes, is_state, stamps_at, entries_at}

@@ -10,7 +10,7 @@ use Rattle.peg_name.specs.Name.{Rack, InLimits, clients_most, parts_most}
 use Rattle.peg_name.specs.Holders.{bits_of}
 use Rattle.peg_name.specs.declared.Format.{Format}
 use Rattle.peg_name.specs.declared.Format.TheVariants.{One, Two}
-use Rattle.peg_event.specs.declared.Listing.{Listing}
+use Rattle.peg_event.specs.declared.answers.Listing.{Listing}
 use Rattle.peg_model.specs.Packet.{Part, in_range, two, eight, key_bytes, is_positive}
 use Rattle.peg_model.specs.Packet.{are_distinct}
 use Rattle.peg_model.specs.Rules.{Directory}

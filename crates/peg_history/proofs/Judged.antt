@@ -2,9 +2,9 @@
 use Rattle.std.proofs.Common.{◌≡◌, ◌<◌, ◌≤◌, ◌+◌, ℕ, Option, Some, None, List, length}
 use Rattle.std.proofs.Common.{get_or, drop, map, sym, ap, ◌∙◌}
 use Rattle.std.proofs.lemmas.List.{drop_more, drop_all}
-use Rattle.peg_event.specs.declared.Op.{Op}
-use Rattle.peg_event.specs.declared.Fault.{Fault}
-use Rattle.peg_event.specs.declared.Verdict.TheVariants as verdict
+use Rattle.peg_event.specs.declared.history.Op.{Op}
+use Rattle.peg_event.specs.declared.history.Fault.{Fault}
+use Rattle.peg_event.specs.declared.history.Verdict.TheVariants as verdict
 use Rattle.peg_model.specs.Judge.{or_else, order_fault, first_fault, verdict_with, verdict_of}
 use Rattle.peg_history.specs.declared.KeyOrder.{KeyOrder}
 use Rattle.peg_history.specs.Walking.{order_pair}

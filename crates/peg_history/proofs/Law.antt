@@ -13,21 +13,21 @@ use Rattle.std.specs.Option.{IsSomeAnd}
 use Rattle.std.specs.List.{AllByRecursion, cons_option, list_any}
 use Rattle.std.specs.Str.{bytes_eq}
 use Rattle.std.specs.Cmp.Lexicographic.{nat_list_eq_equiv}
-use Rattle.peg_name.specs.declared.Content.{Content}
-use Rattle.peg_name.specs.declared.Content.TheVariants.{Absent, Present}
-use Rattle.peg_event.specs.declared.Act.{Act}
-use Rattle.peg_event.specs.declared.Act.TheVariants.{Read, Write}
-use Rattle.peg_event.specs.declared.Op.{Op}
-use Rattle.peg_event.specs.declared.Fault.{Fault}
-use Rattle.peg_event.specs.declared.Fault.TheVariants as fault
+use Rattle.peg_name.specs.declared.value.Content.{Content}
+use Rattle.peg_name.specs.declared.value.Content.TheVariants.{Absent, Present}
+use Rattle.peg_event.specs.declared.history.Act.{Act}
+use Rattle.peg_event.specs.declared.history.Act.TheVariants.{Read, Write}
+use Rattle.peg_event.specs.declared.history.Op.{Op}
+use Rattle.peg_event.specs.declared.history.Fault.{Fault}
+use Rattle.peg_event.specs.declared.history.Fault.TheVariants as fault
 use Rattle.peg_model.specs.World.{is_write}
 use Rattle.peg_model.specs.Register.{content_after, Gives, Legal, KeepsTime, at_places, MayStand}
 use Rattle.peg_model.specs.Judge.{or_else, late_of, is_unseen_read, is_wrong_read, was_walked}
 use Rattle.peg_model.specs.Judge.{is_same_content, place_fault, missing_from, walked_on, held_on}
 use Rattle.peg_model.specs.Judge.{fault_of, walk, order_fault, first_fault, verdict_with, verdict_of}
 use Rattle.peg_model.specs.Register.{IsRegisterHistory}
-use Rattle.peg_event.specs.declared.Verdict.{Verdict}
-use Rattle.peg_event.specs.declared.Verdict.TheVariants as verdict
+use Rattle.peg_event.specs.declared.history.Verdict.{Verdict}
+use Rattle.peg_event.specs.declared.history.Verdict.TheVariants as verdict
 use Rattle.peg_history.specs.declared.KeyOrder.{KeyOrder}
 use Rattle.peg_history.specs.Walking.{order_pair, AreHistories}
 use Rattle.peg_history.proofs.Grouping.{same}

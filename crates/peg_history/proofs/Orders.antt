@@ -11,7 +11,7 @@ use Rattle.std.specs.Ordering.{nat_cmp, bool_cmp, ordering_then, is_lt}
 use Rattle.std.specs.declared.cmp.Ordering.{Ordering}
 use Rattle.std.specs.declared.cmp.Ordering.TheVariants.{Less, Equal, Greater}
 use Rattle.std.specs.Str.{bytes_eq}
-use Rattle.peg_event.specs.declared.Op.{Op}
+use Rattle.peg_event.specs.declared.history.Op.{Op}
 use Rattle.peg_model.specs.Words.{placed, sorted, last_number}
 use Rattle.peg_model.specs.World.{is_write}
 use Rattle.peg_model.specs.Order.{Tagged, tagged, was_read, is_printed, stands_before, lesser}

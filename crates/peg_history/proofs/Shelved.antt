@@ -6,9 +6,9 @@ use Rattle.std.specs.List.{AllByRecursion, slice_get, slice_set}
 use Rattle.std.proofs.lemmas.List.{take-append-le, drop-append-le, length-drop, length-map}
 use Rattle.std.proofs.lemmas.List.{length-append, append-nil}
 use Rattle.std.proofs.Math.Seq.{drop-append_seam, take-length}
-use Rattle.peg_name.specs.declared.Content.{Content}
-use Rattle.peg_name.specs.declared.Content.TheVariants.{Absent, Present}
-use Rattle.peg_event.specs.declared.Op.{Op}
+use Rattle.peg_name.specs.declared.value.Content.{Content}
+use Rattle.peg_name.specs.declared.value.Content.TheVariants.{Absent, Present}
+use Rattle.peg_event.specs.declared.history.Op.{Op}
 use Rattle.peg_history.specs.Contents.{content_at, bytes_in, IsWithin}
 use Rattle.peg_history.specs.Rows.{op_of}
 use Rattle.peg_history.specs.declared.contents.Span.{Span}

@@ -10,12 +10,12 @@ use Rattle.std.proofs.lemmas.Bool.Decides.{nat_tests}
 use Rattle.std.proofs.lemmas.Grind.{common_steps}
 use Rattle.std.specs.Prelude.{nat_eq, slice_get}
 use Rattle.std.specs.Str.{bytes_eq}
-use Rattle.peg_name.specs.declared.Content.{Content}
-use Rattle.peg_event.specs.declared.Act.{Act}
-use Rattle.peg_event.specs.declared.Act.TheVariants.{Read, Write}
-use Rattle.peg_event.specs.declared.Op.{Op}
-use Rattle.peg_event.specs.declared.Fault.{Fault}
-use Rattle.peg_event.specs.declared.Fault.TheVariants as fault
+use Rattle.peg_name.specs.declared.value.Content.{Content}
+use Rattle.peg_event.specs.declared.history.Act.{Act}
+use Rattle.peg_event.specs.declared.history.Act.TheVariants.{Read, Write}
+use Rattle.peg_event.specs.declared.history.Op.{Op}
+use Rattle.peg_event.specs.declared.history.Fault.{Fault}
+use Rattle.peg_event.specs.declared.history.Fault.TheVariants as fault
 use Rattle.peg_model.specs.World.{is_write}
 use Rattle.peg_model.specs.Register.{content_after}
 use Rattle.peg_model.specs.Judge.{or_else, late_of, is_unseen_read, is_wrong_read, was_walked}

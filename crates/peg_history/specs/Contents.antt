@@ -5,8 +5,8 @@
 --     room_of contents      for how many more bytes there is memory
 use Rattle.std.specs.Prelude.{ℕ, ◌+◌, ◌-◌, ◌≤◌, List, [], length, take, drop, if◌then◌else◌}
 use Rattle.std.specs.Prelude.{vec_len, vec_capacity}
-use Rattle.peg_name.specs.declared.Content.{Content}
-use Rattle.peg_name.specs.declared.Content.TheVariants.{Absent, Present}
+use Rattle.peg_name.specs.declared.value.Content.{Content}
+use Rattle.peg_name.specs.declared.value.Content.TheVariants.{Absent, Present}
 use Rattle.peg_history.specs.declared.contents.Contents.{Contents}
 use Rattle.peg_history.specs.declared.contents.Span.{Span}
 

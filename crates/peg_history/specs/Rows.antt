@@ -4,10 +4,10 @@
 --     ledger_of, IsHistory history      what the fields hold, and what they keep
 use Rattle.std.specs.Prelude.{ℕ, ◌-◌, ◌≤◌, List, [], length, map, vec_len, vec_capacity}
 use Rattle.std.specs.List.{AllByRecursion}
-use Rattle.peg_name.specs.declared.Content.{Content}
-use Rattle.peg_event.specs.declared.Act.{Act}
-use Rattle.peg_event.specs.declared.Act.TheVariants.{Read, Write}
-use Rattle.peg_event.specs.declared.Op.{Op}
+use Rattle.peg_name.specs.declared.value.Content.{Content}
+use Rattle.peg_event.specs.declared.history.Act.{Act}
+use Rattle.peg_event.specs.declared.history.Act.TheVariants.{Read, Write}
+use Rattle.peg_event.specs.declared.history.Op.{Op}
 use Rattle.peg_history.specs.Ledger.{Ledger}
 use Rattle.peg_history.specs.Contents.{content_at, bytes_in, IsWithin, room_of}
 use Rattle.peg_history.specs.declared.Row.{Row}

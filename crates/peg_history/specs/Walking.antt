@@ -18,11 +18,11 @@ use Rattle.std.specs.Ordering.{nat_cmp}
 use Rattle.std.specs.Cmp.Lexicographic.{slice_cmp}
 use Rattle.std.specs.BTreeMap.{BTreeMap, get}
 use Rattle.std.specs.Str.{bytes_eq}
-use Rattle.peg_name.specs.declared.Content.{Content}
-use Rattle.peg_name.specs.declared.Content.TheVariants.{Absent}
-use Rattle.peg_event.specs.declared.Op.{Op}
-use Rattle.peg_event.specs.declared.Fault.{Fault}
-use Rattle.peg_event.specs.declared.Fault.TheVariants as fault
+use Rattle.peg_name.specs.declared.value.Content.{Content}
+use Rattle.peg_name.specs.declared.value.Content.TheVariants.{Absent}
+use Rattle.peg_event.specs.declared.history.Op.{Op}
+use Rattle.peg_event.specs.declared.history.Fault.{Fault}
+use Rattle.peg_event.specs.declared.history.Fault.TheVariants as fault
 use Rattle.peg_model.specs.World.{is_write}
 use Rattle.peg_model.specs.Register.{IsRegisterHistory}
 use Rattle.peg_model.specs.Judge.{is_unseen_read, is_wrong_read}

@@ -2,7 +2,7 @@
 ghost use Rattle.std.specs.Prelude.{◌≡◌, ℕ, ◌+◌, ◌<◌, ◌≤◌, ◌↔◌, ◌++◌, List, OnOk, Some, length, map};
 ghost use Rattle.std.specs.Prelude.{IfOk, slice_get, slice_index, nat_eq};
 ghost use Rattle.std.specs.Str.{bytes_eq};
-ghost use Rattle.peg_event.specs.declared.Verdict.TheVariants.{Yes};
+ghost use Rattle.peg_event.specs.declared.history.Verdict.TheVariants.{Yes};
 ghost use Rattle.peg_model.specs.Judge.{verdict_of, order_fault, late_of, is_same_content};
 ghost use Rattle.peg_history.specs.Walking.{order_pair, AreHistories, walked_of, latest_issue};
 ghost use Rattle.peg_history.specs.Walking.{held_at, places_in, place_if, last_write, own_fault};

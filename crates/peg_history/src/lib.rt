@@ -11,7 +11,6 @@ ghost use Rattle.peg_history.specs.Contents.{size_of, room_of, IsWithin};
 ghost use Rattle.peg_history.specs.Rows.{op_of, answered_bytes};
 
 use contents::{Contents, Span};
-use peg_event::{Act, Op};
 use peg_name::{ClientId, Content, Key, Version};
 use std::alloc::Global;
 use std::marker::Model;
@@ -26,6 +25,7 @@ mod tests;
 pub use checking::check;
 pub use group::orders_of;
 pub use order::order_of;
+pub use peg_event::{Act, Op};
 pub use peg_name::OutOfMemory;
 
 /// The operations of a run, named by their places from 0. Their contents lie one behind the other.

@@ -7,7 +7,7 @@ use Rattle.std.proofs.lemmas.Bool.Decides.{nat_tests}
 use Rattle.std.proofs.lemmas.List.{drop-take, drop-drop, take-take}
 use Rattle.std.specs.List.{prefix_len}
 use Rattle.std.proofs.lemmas.List.{append-nil}
-use Rattle.peg_io.specs.Lines.{line_of, past_line, HasNoFeed}
+use Rattle.peg_io.specs.Lines.{line_of, past_line, past_lines, has_feed, HasNoFeed, AreFed}
 
 is_other : (b : ℕ) → b ≢ 10 → (b == 10) ≡ false
 is_other b other = grind (arith, nat_tests)
@@ -117,6 +117,35 @@ whole_line xs whole =
 
 pub HasNoFeed-whole : (xs : List ℕ) → length xs ≤ length (line_of xs) → HasNoFeed xs
 HasNoFeed-whole xs whole = let e = whole_line xs whole in subst HasNoFeed e (HasNoFeed-line_of xs)
+
+-- ---- whether it ended with a line feed
+
+pub both_ways : (b : Bool) → b ≡ true → b ≡ false → ⊥
+both_ways b is is_not = cc
+
+pub fed_is : (xs : List ℕ) → length (line_of xs) < length xs → has_feed xs ≡ true
+fed_is xs feed = grind (arith, nat_tests)
+
+pub unfed_is : (xs : List ℕ) → HasNoFeed xs → has_feed xs ≡ false
+unfed_is xs part =
+    let same : length (line_of xs) ≡ length xs = ap length (line_of-last xs part) in
+    grind (arith, nat_tests)
+
+pub unfed_past : (xs : List ℕ) → has_feed xs ≡ false → past_line xs ≡ []
+unfed_past xs unfed =
+    let all : length xs ≤ length (line_of xs) = grind (arith, nat_tests) in
+    past_line-last xs (HasNoFeed-whole xs all)
+
+pub fed_more :
+    (n : ℕ) (input : List ℕ) → AreFed n input → has_feed (past_lines n input) ≡ true
+    → AreFed (n + 1) input
+fed_more n input fed one i few = by_cases (i == n) refl
+  where
+    by_cases : (t : Bool) → (i == n) ≡ t → has_feed (past_lines i input) ≡ true
+    by_cases true e =
+        let same : i ≡ n = grind (arith, nat_tests) in
+        ap (λ k. has_feed (past_lines k input)) same ∙ one
+    by_cases false e = fed i (grind (arith, nat_tests))
 
 -- ---- more of the input after a line feed changes nothing before it
 

@@ -2,7 +2,7 @@
 use Rattle.std.proofs.Common.{◌≡◌, ◌<◌, ◌≤◌, ◌==◌, ◌+◌, ◌-◌, ℕ, suc, true, false, Option, Some}
 use Rattle.std.proofs.Common.{List, [], ◌∷◌, ◌++◌, length, take, drop, if◌then◌else◌, refl, sym}
 use Rattle.std.proofs.Common.{ap, ◌∙◌, subst, arith, append_assoc, length-append, length-drop}
-use Rattle.std.proofs.Common.{length-take}
+use Rattle.std.proofs.Common.{length-take, Bool, not}
 use Rattle.std.proofs.lemmas.List.{append-nil, take-append-drop, take-append-le, take_at}
 use Rattle.std.proofs.lemmas.List.{drop-drop}
 use Rattle.std.proofs.lemmas.Bool.Decides.{nat_tests}
@@ -17,11 +17,12 @@ use Rattle.peg_io.proofs.LineLemmas.{line_of-append, past_line-append, HasNoFeed
 use Rattle.peg_io.proofs.LineLemmas.{HasNoFeed-take, HasNoFeed-whole, HasNoFeed-line_of}
 use Rattle.peg_io.proofs.LineLemmas.{take-line_of, drop-line_of, line_of-more, past_line-more}
 use Rattle.peg_io.proofs.LineLemmas.{line_of-last, past_line-last, length-line_of}
+use Rattle.peg_io.proofs.LineLemmas.{both_ways, fed_is, unfed_is}
 
 -- ---- a step by what is read ahead
 
 abbrev moved : ℕ → ReadAhead → ReadAhead
-moved n old = record { held = drop n old.held; line = old.line ++ take n old.held }
+moved n old = record old { held = drop n old.held; line = old.line ++ take n old.held }
 
 length-moved :
     (n : ℕ) (old : ReadAhead) → n ≤ length old.held
@@ -73,7 +74,7 @@ pub takes_line :
     (limit count : ℕ) (old mid now : ReadAhead) → count ≡ length (line_of old.held)
     → count ≤ limit - length old.line → length old.line ≤ limit
     → length old.held ≤ 4096 → mid ≡ moved count old → 0 < length mid.held
-    → now ≡ record { held = drop 1 mid.held; line = mid.line } → TakesLine limit old now
+    → now ≡ record mid { held = drop 1 mid.held } → TakesLine limit old now
 takes_line limit count old mid now is room fits near e more f =
     let m : mid.held ≡ drop count old.held = ap (λ (n : ReadAhead). n.held) e in
     let feed : count < length old.held = omega (arith, ap length m, length-drop count old.held) in
@@ -151,12 +152,12 @@ IsUnder_more {limit} {held} {old} {now} {before} {left} under all =
 -- ---- the answers
 
 pub gives_line : {limit : ℕ} {held : List ℕ} {old now : ReadAhead} {before left : Option (List ℕ)}
-    → IsUnder limit held old before left → TakesLine limit old now
-    → Tells before left (λ b n. GivesLine limit (held ++ b) now.line (now.held ++ n))
-gives_line {limit} {held} {old} {now} {before} {left} under line =
+    → IsUnder limit held old before left → TakesLine limit old now → now.ended ≡ false
+    → Tells before left (λ b n. GivesLine limit (held ++ b) now n)
+gives_line {limit} {held} {old} {now} {before} {left} under line goes_on =
     Tells_as before left (IsSplit held old)
-    (λ b n. GivesLine limit (held ++ b) now.line (now.held ++ n))
-    (λ b n e. record {
+    (λ b n. GivesLine limit (held ++ b) now n)
+    (λ b n e. let bytes = bytes_of b n e in record {
       more =
           omega (
             arith,
@@ -167,13 +168,29 @@ gives_line {limit} {held} {old} {now} {before} {left} under line =
             line.feed,
           );
       fits = line.fits;
-      bytes =
-          line.line ∙ ap (λ xs. old.line ++ xs) (sym (line_of-more old.held n line.feed)) ∙ sym
-          (line_of-append old.line (old.held ++ n) under.part) ∙ ap line_of (sym e);
+      bytes = bytes;
       rest =
           ap (λ xs. xs ++ n) line.rest ∙ sym (past_line-more old.held n line.feed) ∙ sym
           (past_line-append old.line (old.held ++ n) under.part) ∙ ap past_line (sym e);
+      feed =
+          fed_is (held ++ b)
+          (omega (
+            arith,
+            ap length bytes,
+            ap length line.line,
+            length-append old.line (line_of old.held),
+            line.feed,
+            ap length e,
+            length-append old.line (old.held ++ n),
+            length-append old.held n,
+          ))
+          ∙ sym (ap not goes_on);
     }) under.split
+  where
+    bytes_of : (b n : List ℕ) → IsSplit held old b n → now.line ≡ line_of (held ++ b)
+    bytes_of b n e =
+        line.line ∙ ap (λ xs. old.line ++ xs) (sym (line_of-more old.held n line.feed)) ∙ sym
+        (line_of-append old.line (old.held ++ n) under.part) ∙ ap line_of (sym e)
 
 -- a byte past a front is in the line too
 line_of-longer : (xs more : List ℕ) → length (line_of xs) ≤ length (line_of (xs ++ more))
@@ -190,10 +207,10 @@ line_of-longer (b ∷ xs) more =
 pub gives_too_long :
     {limit : ℕ} {held : List ℕ} {old now : ReadAhead} {before left : Option (List ℕ)}
     → IsUnder limit held old before left → TakesFront limit old now
-    → Tells before left (λ b n. GivesTooLong limit (held ++ b) now.line (now.held ++ n))
+    → Tells before left (λ b n. GivesTooLong limit (held ++ b) now n)
 gives_too_long {limit} {held} {old} {now} {before} {left} under front =
     Tells_as before left (IsSplit held old)
-    (λ b n. GivesTooLong limit (held ++ b) now.line (now.held ++ n))
+    (λ b n. GivesTooLong limit (held ++ b) now n)
     (λ b n e. record {
       long =
           omega (
@@ -234,8 +251,8 @@ front_part limit old now part front =
 
 has_front :
     (limit : ℕ) (old now : ReadAhead) → HasNoFeed old.line → TakesFront limit old now
-    → HasFront limit now
-has_front limit old now part front =
+    → now.ended ≡ false → HasFront limit now
+has_front limit old now part front goes_on =
     let here : HasNoFeed now.line = front_part limit old now part front in
     let same : now.line ++ line_of now.held ≡ old.line ++ line_of old.held =
     sym (line_of-append now.line now.held here) ∙ ap line_of (sym front.rest) ∙ line_of-append
@@ -253,35 +270,37 @@ has_front limit old now part front =
             front.full,
           );
       near = front.near;
+      goes_on = goes_on;
     }
 
 pub gives_part :
     {limit : ℕ} {held : List ℕ} {old : ReadAhead} (now : ReadAhead) {before left : Option (List ℕ)}
     (answer : NextLine)
     → IsUnder limit held old before left → TakesPart (Some answer) limit old now
-    → Tells before left (λ b n. Gives answer limit (held ++ b) now.line (now.held ++ n))
-gives_part now next.Line under part = gives_line under part
-gives_part now next.TooLong under part = gives_too_long under part
-gives_part now next.End under part = absurd part
-gives_part now next.Failed under part = absurd part
+    → now.ended ≡ false → Tells before left (λ b n. Gives answer limit (held ++ b) now n)
+gives_part now next.Line under part goes_on = gives_line under part goes_on
+gives_part now next.TooLong under part goes_on = gives_too_long under part
+gives_part now next.End under part goes_on = absurd part
+gives_part now next.Failed under part goes_on = absurd part
 
 pub keeps_part :
     {limit : ℕ} {held : List ℕ} {old : ReadAhead} (now : ReadAhead) {before left : Option (List ℕ)}
     (answer : NextLine)
     → IsUnder limit held old before left → TakesPart (Some answer) limit old now
-    → Keeps answer limit now
-keeps_part {limit} {held} {old} now next.Line under line =
+    → now.ended ≡ false → Keeps answer limit now
+keeps_part {limit} {held} {old} now next.Line under line goes_on =
     record {
       part =
           subst HasNoFeed (sym line.line)
           (HasNoFeed-append old.line (line_of old.held) under.part (HasNoFeed-line_of old.held));
       fits = line.fits;
       near = line.near;
+      none = λ is. absurd (both_ways now.ended is goes_on);
     }
-keeps_part {limit} {held} {old} now next.TooLong under front =
-    has_front limit old now under.part front
-keeps_part now next.End under part = absurd part
-keeps_part now next.Failed under part = absurd part
+keeps_part {limit} {held} {old} now next.TooLong under front goes_on =
+    has_front limit old now under.part front goes_on
+keeps_part now next.End under part goes_on = absurd part
+keeps_part now next.Failed under part goes_on = absurd part
 
 -- ---- the end of the input, and a failure
 
@@ -297,45 +316,63 @@ last_is :
 last_is b line = grind (arith, nat_tests)
 
 last_of :
-    (limit : ℕ) (line before after : List ℕ) → HasNoFeed line → length line ≤ limit → before ≡ line
-    → after ≡ []
-    → Gives (if length line == 0 then next.End else next.Line) limit before line after
-last_of limit [] before after part fits e none = (e, none)
-last_of limit (b ∷ line) before after part fits e none =
-    subst (λ (a : NextLine). Gives a limit before (b ∷ line) after) (sym (last_is b line))
+    (limit : ℕ) (held line : List ℕ) (ended : Bool) (before left : List ℕ) → HasNoFeed line
+    → length line ≤ limit → ended ≡ true → before ≡ line → held ++ left ≡ []
+    → Gives (if length line == 0 then next.End else next.Line) limit before
+    (record { held = held; line = line; ended = ended }) left
+last_of limit held [] ended before left part fits is e none = (e, none)
+last_of limit held (b ∷ line) ended before left part fits is e none =
+    subst
+    (λ (a : NextLine). Gives a limit before
+    (record { held = held; line = b ∷ line; ended = ended }) left) (sym (last_is b line))
     (record {
       more = omega (arith, ap length e);
       fits = fits;
       bytes = sym (line_of-last (b ∷ line) part) ∙ ap line_of (sym e);
       rest = none ∙ sym (past_line-last (b ∷ line) part) ∙ ap past_line (sym e);
+      feed = ap has_feed e ∙ unfed_is (b ∷ line) part ∙ sym (ap not is);
     })
 
-keeps_last : (limit : ℕ) (held line : List ℕ) → HasNoFeed line → length line ≤ limit → held ≡ []
-    → Keeps (if length line == 0 then next.End else next.Line) limit
-    (record { held = held; line = line })
-keeps_last limit held [] part fits none = (none, refl)
-keeps_last limit held (b ∷ line) part fits none =
-    subst (λ (a : NextLine). Keeps a limit (record { held = held; line = b ∷ line }))
+keeps_last :
+    (limit : ℕ) (held line : List ℕ) (ended : Bool) → HasNoFeed line → length line ≤ limit
+    → held ≡ [] → ended ≡ true → Keeps (if length line == 0 then next.End else next.Line) limit
+    (record { held = held; line = line; ended = ended })
+keeps_last limit held [] ended part fits none is =
+    λ i. record { held = none i; line = []; ended = is i }
+keeps_last limit held (b ∷ line) ended part fits none is =
+    subst
+    (λ (a : NextLine). Keeps a limit (record { held = held; line = b ∷ line; ended = ended }))
     (sym (last_is b line))
-    (record { part = part; fits = fits; near = omega (arith, ap length none) })
+    (record {
+      part = part;
+      fits = fits;
+      near = omega (arith, ap length none);
+      none = λ _. none;
+    })
+
+pub last_ends :
+    (line : List ℕ) (answer : NextLine)
+    → answer ≡ (if length line == 0 then next.End else next.Line) → line ≡ []
+    → answer ≡ next.End
+last_ends line answer is none =
+    is ∙ ap (λ (xs : List ℕ). if length xs == 0 then next.End else next.Line) none
 
 pub gives_last :
     {limit : ℕ} {held : List ℕ} {old now : ReadAhead} {before mid : Option (List ℕ)}
     (left : Option (List ℕ)) (answer : NextLine)
     → answer ≡ (if length now.line == 0 then next.End else next.Line)
-    → IsUnder limit held old before mid → HasNoMore old now → Tells mid left AreNone
-    → Tells before left (λ b n. Gives answer limit (held ++ b) now.line (now.held ++ n))
-gives_last {limit} {held} {old} {now} {before} {mid} left answer is under none told =
+    → IsUnder limit held old before mid → HasNoMore old now → now.ended ≡ true
+    → Tells mid left AreNone
+    → Tells before left (λ b n. Gives answer limit (held ++ b) now n)
+gives_last {limit} {held} {old} {now} {before} {mid} left answer is under none ended told =
     subst
-    (λ (a : NextLine). Tells before left
-    (λ b n. Gives a limit (held ++ b) now.line (now.held ++ n)))
+    (λ (a : NextLine). Tells before left (λ b n. Gives a limit (held ++ b) now n))
     (sym is)
     (Tells_more before mid left (IsSplit held old) AreNone
-    (λ b n. Gives (if length now.line == 0 then next.End else next.Line) limit (held
-    ++ b) now.line (now.held ++ n))
-    (λ b m n e f. last_of limit now.line (held ++ b) (now.held ++ n)
+    (λ b n. Gives (if length now.line == 0 then next.End else next.Line) limit (held ++ b) now n)
+    (λ b m n e f. last_of limit now.held now.line now.ended (held ++ b) n
     (subst HasNoFeed (sym none.line) under.part)
-    (subst (λ xs. length xs ≤ limit) (sym none.line) under.fits)
+    (subst (λ xs. length xs ≤ limit) (sym none.line) under.fits) ended
     (unread old now held b m none e ∙ ap (λ xs. now.line ++ xs) f.0 ∙ append-nil now.line)
     (ap (λ xs. xs ++ n) none.still ∙ f.1))
     under.split told)
@@ -344,20 +381,21 @@ pub keeps_end :
     {limit : ℕ} {held : List ℕ} {old now : ReadAhead} {before mid : Option (List ℕ)}
     (answer : NextLine)
     → answer ≡ (if length now.line == 0 then next.End else next.Line)
-    → IsUnder limit held old before mid → HasNoMore old now → Keeps answer limit now
-keeps_end {limit} {held} {old} {now} answer is under none =
+    → IsUnder limit held old before mid → HasNoMore old now → now.ended ≡ true
+    → Keeps answer limit now
+keeps_end {limit} {held} {old} {now} answer is under none ended =
     subst (λ (a : NextLine). Keeps a limit now) (sym is)
-    (keeps_last limit now.held now.line (subst HasNoFeed (sym none.line) under.part)
-    (subst (λ xs. length xs ≤ limit) (sym none.line) under.fits) none.still)
+    (keeps_last limit now.held now.line now.ended (subst HasNoFeed (sym none.line) under.part)
+    (subst (λ xs. length xs ≤ limit) (sym none.line) under.fits) none.still ended)
 
 pub gives_failed :
     {limit : ℕ} {held : List ℕ} {old now : ReadAhead} {before mid : Option (List ℕ)}
     (left : Option (List ℕ))
     → IsUnder limit held old before mid → HasNoMore old now → Tells mid left Stays
-    → Tells before left (λ b n. GivesPart limit (held ++ b) now.line (now.held ++ n))
+    → Tells before left (λ b n. GivesPart limit (held ++ b) now n)
 gives_failed {limit} {held} {old} {now} {before} {mid} left under none told =
     Tells_more before mid left (IsSplit held old) Stays
-    (λ b n. GivesPart limit (held ++ b) now.line (now.held ++ n))
+    (λ b n. GivesPart limit (held ++ b) now n)
     (λ b m n e f. record {
       part = subst HasNoFeed (sym none.line) under.part;
       fits = subst (λ xs. length xs ≤ limit) (sym none.line) under.fits;
@@ -367,13 +405,15 @@ gives_failed {limit} {held} {old} {now} {before} {mid} left under none told =
     }) under.split told
 
 pub keeps_failed : {limit : ℕ} {held : List ℕ} {old now : ReadAhead} {before mid : Option (List ℕ)}
-    → IsUnder limit held old before mid → HasNoMore old now → Keeps next.Failed limit now
-keeps_failed {limit} {held} {old} {now} under none = (
-  none.still,
-  subst HasNoFeed (sym none.line) under.part,
-  subst (λ xs. length xs ≤ limit)
-      (sym none.line) under.fits,
-)
+    → IsUnder limit held old before mid → HasNoMore old now → now.ended ≡ false
+    → Keeps next.Failed limit now
+keeps_failed {limit} {held} {old} {now} under none goes_on =
+    record {
+      none = none.still;
+      part = subst HasNoFeed (sym none.line) under.part;
+      fits = subst (λ xs. length xs ≤ limit) (sym none.line) under.fits;
+      goes_on = goes_on;
+    }
 
 -- ---- a line feed that is read ahead
 
@@ -382,5 +422,4 @@ feed_is_more held feed = grind (arith, nat_tests)
 
 pub feed_ends_line : (held : List ℕ) → HasNoFeed held → has_feed held ≡ true → ⊥
 feed_ends_line held part feed =
-    let same : length (line_of held) ≡ length held = ap length (line_of-last held part) in
-    grind (arith, nat_tests)
+    both_ways (has_feed held) feed (unfed_is held part)

@@ -22,6 +22,12 @@ Tells_as before None R T weaken r = tt
 Tells_as None (Some now) R T weaken r = absurd r
 Tells_as (Some before) (Some now) R T weaken r = weaken before now r
 
+pub Tells_both : {A : Type 0} (before now : Option A) (R T : A → A → Type 0)
+    → Tells before now R → Tells before now T → Tells before now (λ b n. R b n × T b n)
+Tells_both before None R T r t = tt
+Tells_both None (Some now) R T r t = absurd r
+Tells_both (Some before) (Some now) R T r t = (r, t)
+
 pub Tells_none :
     {A : Type 0} (before : Option A) (R : A → A → Type 0) → ((b : A) → R b b)
     → Tells before before R
@@ -62,14 +68,14 @@ more_written bytes rest before mid now n done told =
 
 -- a write that failed ends it
 pub some_written :
-    (bytes rest : List ℕ) (before mid now : Option (List ℕ)) → IsWritten bytes rest before mid
-    → Tells mid now Stays
+    (bytes rest : List ℕ) (before mid now : Option (List ℕ)) → 0 < length rest
+    → IsWritten bytes rest before mid → Tells mid now Stays
     → Tells before now (WritesSome bytes)
-some_written bytes rest before mid now done told =
+some_written bytes rest before mid now more done told =
     Tells_more before mid now (Appends done.front) Stays (WritesSome bytes)
     (λ b m k e f. (
       length done.front,
-      omega (arith, ap length done.parts, length-append done.front rest),
+      omega (arith, ap length done.parts, length-append done.front rest, more),
       f ∙
           e ∙ ap (λ xs. b
           ++ xs) (sym (front_of bytes done.front rest done.parts)),

@@ -1,11 +1,15 @@
 -- Lines of an input that is read ahead.
---     ReadAhead      the bytes that were taken and not given yet, and the last line
+--     ReadAhead      the bytes that were taken and not given yet, the last line, and whether the
+--         input has ended
 --     line_of input      the bytes before the first line feed, or all of them
 --     past_line input      the bytes after the first line feed, or none
---     has_feed held      whether a line feed is among them
---     Gives answer limit before line after, Keeps answer limit now      what an answer says of the
+--     has_feed input      whether a line feed is among them
+--     past_lines n input      the bytes after the first n lines
+--     AreFed n input      each of the first n lines ended with a line feed
+--     Gives answer limit before now left, Keeps answer limit now      what an answer says of the
 --         input before it, the line and the input after it
-use Rattle.std.specs.Prelude.{◌≡◌, ◌≢◌, ◌<◌, ◌≤◌, ◌+◌, ◌==◌, ℕ, Bool, nat_lt, Option, Some, None}
+use Rattle.std.specs.Prelude.{◌≡◌, ◌≢◌, ◌<◌, ◌≤◌, ◌+◌, ◌==◌, ℕ, Bool, true, false, not, nat_lt}
+use Rattle.std.specs.Prelude.{Option, Some, None, zero, suc}
 use Rattle.std.specs.Prelude.{List, [], ◌∷◌, ◌++◌, length, slice_range, if◌then◌else◌}
 use Rattle.std.specs.List.{AllByRecursion}
 use Rattle.peg_io.specs.Outside.{Tells, Takes, AreNone, Stays}
@@ -17,6 +21,7 @@ use Rattle.peg_io.specs.declared.lines.NextLine.TheVariants as next
 pub record ReadAhead : Type 0 where
   pub held : List ℕ
   pub line : List ℕ
+  pub ended : Bool
 
 abbrev pub line_of : List ℕ → List ℕ
 line_of [] = []
@@ -27,51 +32,65 @@ past_line [] = []
 past_line (b ∷ input) = if b == 10 then input else past_line input
 
 abbrev pub has_feed : List ℕ → Bool
-has_feed held = nat_lt (length (line_of held)) (length held)
+has_feed input = nat_lt (length (line_of input)) (length input)
+
+abbrev pub past_lines : ℕ → List ℕ → List ℕ
+past_lines zero input = input
+past_lines (suc n) input = past_line (past_lines n input)
+
+abbrev pub AreFed : ℕ → List ℕ → Type 0
+AreFed n input = (i : ℕ) → i < n → has_feed (past_lines i input) ≡ true
 
 -- how a reader lies in memory; so many bytes stand before the first line feed
-pub record InPlace (buf : List ℕ) (start end : ℕ) (line : List ℕ) (len feed : ℕ) : Type 0 where
+pub record InPlace (buf : List ℕ) (start end : ℕ) (line : List ℕ) (len feed : ℕ)
+    (ended : Bool) : Type 0 where
   pub ordered : start ≤ end
   pub in_buffer : end ≤ 4096
   pub in_line : len ≤ 4096
   pub buffer : length buf ≡ 4096
   pub place : length line ≡ 4096
   pub ahead : feed ≡ length (line_of (slice_range buf start end))
+  pub none : ended ≡ true → start ≡ end
 
 -- bytes of one line
 abbrev pub HasNoFeed : List ℕ → Type 0
 HasNoFeed bytes = AllByRecursion (λ b. b ≢ 10) bytes
 
--- a line was there, and it and its line feed were taken
-pub record GivesLine (limit : ℕ) (before line after : List ℕ) : Type 0 where
+-- a line was there, and it and its line feed were taken; it has none where the input has ended
+pub record GivesLine (limit : ℕ) (before : List ℕ) (now : ReadAhead) (left : List ℕ) :
+    Type 0 where
   pub more : 0 < length before
-  pub fits : length line ≤ limit
-  pub bytes : line ≡ line_of before
-  pub rest : after ≡ past_line before
+  pub fits : length now.line ≤ limit
+  pub bytes : now.line ≡ line_of before
+  pub rest : now.held ++ left ≡ past_line before
+  pub feed : has_feed before ≡ not now.ended
 
 -- the line has more than `limit` bytes, so many of which were taken
-pub record GivesTooLong (limit : ℕ) (before line after : List ℕ) : Type 0 where
+pub record GivesTooLong (limit : ℕ) (before : List ℕ) (now : ReadAhead) (left : List ℕ) :
+    Type 0 where
   pub long : limit < length (line_of before)
-  pub taken : length line ≡ limit
-  pub rest : before ≡ line ++ after
+  pub taken : length now.line ≡ limit
+  pub rest : before ≡ now.line ++ (now.held ++ left)
 
 -- the source failed within a line, the taken bytes of which are kept
-pub record GivesPart (limit : ℕ) (before line after : List ℕ) : Type 0 where
-  pub part : HasNoFeed line
-  pub fits : length line ≤ limit
-  pub rest : before ≡ line ++ after
+pub record GivesPart (limit : ℕ) (before : List ℕ) (now : ReadAhead) (left : List ℕ) :
+    Type 0 where
+  pub part : HasNoFeed now.line
+  pub fits : length now.line ≤ limit
+  pub rest : before ≡ now.line ++ (now.held ++ left)
 
-abbrev pub Gives : NextLine → ℕ → List ℕ → List ℕ → List ℕ → Type 0
-Gives next.Line limit before line after = GivesLine limit before line after
-Gives next.TooLong limit before line after = GivesTooLong limit before line after
-Gives next.End limit before line after = (before ≡ []) × (after ≡ [])
-Gives next.Failed limit before line after = GivesPart limit before line after
+abbrev pub Gives : NextLine → ℕ → List ℕ → ReadAhead → List ℕ → Type 0
+Gives next.Line limit before now left = GivesLine limit before now left
+Gives next.TooLong limit before now left = GivesTooLong limit before now left
+Gives next.End limit before now left = (before ≡ []) × (now.held ++ left ≡ [])
+Gives next.Failed limit before now left = GivesPart limit before now left
 
 -- a line that lies in place, and how far the bytes taken go past its line feed
 pub record HasLine (limit : ℕ) (now : ReadAhead) : Type 0 where
   pub part : HasNoFeed now.line
   pub fits : length now.line ≤ limit
   pub near : length now.held ≤ 4095
+  pub none : now.ended ≡ true → now.held ≡ []
 
 -- the front of a line that is too long; the byte that makes it so is the first of those read ahead
 pub record HasFront (limit : ℕ) (now : ReadAhead) : Type 0 where
@@ -79,13 +98,21 @@ pub record HasFront (limit : ℕ) (now : ReadAhead) : Type 0 where
   pub full : length now.line ≡ limit
   pub more : 0 < length (line_of now.held)
   pub near : length now.held ≤ 4096
+  pub goes_on : now.ended ≡ false
+
+-- a part of a line whose rest could not be read
+pub record HasPart (limit : ℕ) (now : ReadAhead) : Type 0 where
+  pub none : now.held ≡ []
+  pub part : HasNoFeed now.line
+  pub fits : length now.line ≤ limit
+  pub goes_on : now.ended ≡ false
 
 -- what holds after an answer whether the source tells or not
 abbrev pub Keeps : NextLine → ℕ → ReadAhead → Type 0
 Keeps next.Line limit now = HasLine limit now
 Keeps next.TooLong limit now = HasFront limit now
-Keeps next.End limit now = (now.held ≡ []) × (now.line ≡ [])
-Keeps next.Failed limit now = (now.held ≡ []) × HasNoFeed now.line × (length now.line ≤ limit)
+Keeps next.End limit now = now ≡ record { held = []; line = []; ended = true }
+Keeps next.Failed limit now = HasPart limit now
 
 -- ---- the parts of one call
 
@@ -96,9 +123,16 @@ Fills (got.Bytes n) held before now =
 Fills got.End held before now = (held ≡ []) × Tells before now AreNone
 Fills got.Failed held before now = (held ≡ []) × Tells before now Stays
 
+-- whether a read says that the input has ended
+abbrev pub EndsAt : Got → Bool → Type 0
+EndsAt (got.Bytes n) ended = ended ≡ false
+EndsAt got.End ended = ended ≡ true
+EndsAt got.Failed ended = ended ≡ false
+
 -- something is read ahead now
 pub record HasMore (old now : ReadAhead) (before left : Option (List ℕ)) : Type 0 where
   pub more : 0 < length now.held
+  pub goes_on : (old.ended ≡ false) × (now.ended ≡ false)
   pub line : now.line ≡ old.line
   pub same : Tells before left (λ b n. old.held ++ b ≡ now.held ++ n)
 
@@ -110,8 +144,10 @@ pub record HasNoMore (old now : ReadAhead) : Type 0 where
 
 abbrev pub IsReady : Got → ReadAhead → ReadAhead → Option (List ℕ) → Option (List ℕ) → Type 0
 IsReady (got.Bytes n) old now before left = HasMore old now before left
-IsReady got.End old now before left = HasNoMore old now × Tells before left AreNone
-IsReady got.Failed old now before left = HasNoMore old now × Tells before left Stays
+IsReady got.End old now before left =
+    HasNoMore old now × (now.ended ≡ true) × (old.ended ≡ false → Tells before left AreNone)
+IsReady got.Failed old now before left =
+    HasNoMore old now × (now.ended ≡ false) × Tells before left Stays
 
 -- all that was read ahead belongs to the line
 pub record TakesAll (limit : ℕ) (old now : ReadAhead) : Type 0 where

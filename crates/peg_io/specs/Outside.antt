@@ -3,9 +3,10 @@
 --     Rose before now      a count of faults rose in a call, or stands at its end
 --     Tells before now R      what is told after a call is related to what was told before it
 --     Reads, Writes      what a read took of what was left, and what a write appended
+--     WritesSome bytes      what a write of all the bytes appended that ended early
 --     Binds, HasTurn, Attempts      what each call of a wire adds to that
-use Rattle.std.specs.Prelude.{◌≡◌, ◌≤◌, ◌+◌, ◌-◌, ◌^◌, ℕ, min, Option, Some, None, List, [], ◌∷◌}
-use Rattle.std.specs.Prelude.{◌++◌, length, take}
+use Rattle.std.specs.Prelude.{◌≡◌, ◌≤◌, ◌<◌, ◌+◌, ◌-◌, ◌^◌, ℕ, min, Option, Some, None, List, []}
+use Rattle.std.specs.Prelude.{◌∷◌, ◌++◌, length, take}
 use Rattle.peg_meaning.specs.Wire.{Turn, Datagram, Pause, Carried, with_turn}
 use Rattle.peg_io.specs.declared.Got.{Got}
 use Rattle.peg_io.specs.declared.Got.TheVariants as got
@@ -57,14 +58,20 @@ Writes (took.Bytes n) bytes before now =
     FitsIn n (length bytes) × Tells before now (Appends (take n bytes))
 Writes took.Failed bytes before now = Tells before now Stays
 
--- a write of all the bytes that ended early wrote some of them, from the first on
+-- fewer than all of the bytes were appended, from the first on
 abbrev pub WritesSome : List ℕ → List ℕ → List ℕ → Type 0
-WritesSome bytes before now = (n : ℕ) × (n ≤ length bytes) × (now ≡ before ++ take n bytes)
+WritesSome bytes before now = (n : ℕ) × (n < length bytes) × (now ≡ before ++ take n bytes)
 
 -- ---- wires
 
 -- the faults and the lost sends of a wire that carries nothing
 pub record FaultCounts : Type 0 where
+  pub faults : ℕ
+  pub lost : ℕ
+
+-- how many sockets a wire has bound, and its faults and lost sends
+pub record SocketCounts : Type 0 where
+  pub slots : ℕ
   pub faults : ℕ
   pub lost : ℕ
 

@@ -3,11 +3,11 @@ use Rattle.std.specs.Prelude.{ℕ, List}
 use Rattle.std.specs.Borrow.{Bor}
 use Rattle.peg_meaning.specs.Wire.{Turn, Datagram, Pause, Sent}
 use Rattle.peg_io.specs.Memory.{Coming, Carries, Pauses, Fails}
-use Rattle.peg_io.specs.declared.memory.Scripted.{Scripted}
-use Rattle.peg_io.specs.declared.memory.Scripted.TheVariants as scripted
-use Rattle.peg_io.specs.declared.memory.Turned.{Turned}
-use Rattle.peg_io.specs.declared.memory.Turned.TheVariants as turned
-use Rattle.peg_io.specs.declared.memory.Attempt.{Attempt}
+use Rattle.peg_io.specs.declared.script.Scripted.{Scripted}
+use Rattle.peg_io.specs.declared.script.Scripted.TheVariants as scripted
+use Rattle.peg_io.specs.declared.script.Turned.{Turned}
+use Rattle.peg_io.specs.declared.script.Turned.TheVariants as turned
+use Rattle.peg_io.specs.declared.script.Attempt.{Attempt}
 
 abbrev pub coming_of : Scripted → Coming
 coming_of (scripted.Datagram bytes) = Carries bytes.items

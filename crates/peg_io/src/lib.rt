@@ -12,13 +12,17 @@ ghost use Rattle.peg_io.specs.Outside.{HeardIn, Binds, Attempts, Tells};
 mod adapters;
 mod lines;
 mod memory;
+mod script;
 #[cfg(test)]
 mod tests;
+mod udp;
 
 pub use adapters::{NoWire, StdSink, StdSource};
 pub use lines::{Lines, NextLine};
-pub use memory::{MemorySink, MemorySource, MemoryWire, Scripted};
+pub use memory::{MemorySink, MemorySource};
 pub use peg_name::OutOfMemory;
+pub use script::{MemoryWire, Scripted};
+pub use udp::UdpWire;
 
 /// What a read gave.
 #[derive(Clone, Copy, Debug, PartialEq, Eq)]
@@ -97,11 +101,12 @@ pub trait Wire {
     /// How many sends failed.
     ghost lost: { Self → ℕ };
 
-    /// Binds a port, and answers its slot.
+    /// Binds a port, and answers its slot; `None` where that failed, and past 4,000,000,000 of them.
     fn bind(&mut self, port: u16) -> Option<u32>
         ensures content { Tells (carried self.old) (carried self.new) (Binds port result) }
         ensures slot { IfSome result (λ slot. slot ≡ slots self.old) }
         ensures bound { IfSome result (λ _. slots self.new ≡ slots self.old + 1) }
+        ensures most { 4000000000 ≤ slots self.old → IsNone result }
         ensures refused { IsNone result → slots self.new ≡ slots self.old }
         ensures cause { IsNone result → Rose (faults self.old) (faults self.new) }
         ensures later { faults self.old ≤ faults self.new }
@@ -119,9 +124,9 @@ pub trait Wire {
         ensures later { faults self.old ≤ faults self.new }
         ensures later_lost { lost self.old ≤ lost self.new };
 
-    /// Sends a datagram from a slot to a port; false where that failed.
+    /// Sends a datagram from a slot to a port; false where that failed. It is attempted from any
+    /// slot, and fails from one that isn't bound.
     fn send(&mut self, slot: u32, port: u16, bytes: &[u8]) -> bool
-        requires { slot < slots self.old }
         ensures content { Tells (carried self.old) (carried self.new)
             (Attempts slot port bytes.now) }
         ensures bound { slots self.new ≡ slots self.old }
@@ -130,7 +135,8 @@ pub trait Wire {
         ensures later_lost { lost self.old ≤ lost self.new };
 }
 
-/// Writes all the bytes; false where the sink failed, and some of the first are written then.
+/// Writes all the bytes; false where the sink failed, and fewer than all are written then, from the
+/// first on.
 pub fn write_all<K: Sink>(sink: &mut K, bytes: &[u8]) -> bool
     ensures content { MatchBool result
         (Tells (K.held sink.old) (K.held sink.new) (Appends bytes.now))

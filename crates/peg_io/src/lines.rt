@@ -1,9 +1,10 @@
 // The reader of lines.
 ghost use Rattle.std.specs.Prelude.{◌≡◌, ℕ, ◌+◌, ◌<◌, ◌≤◌, ◌==◌, [], ◌++◌, length, take, drop};
-ghost use Rattle.std.specs.Prelude.{position, if◌then◌else◌, true};
+ghost use Rattle.std.specs.Prelude.{position, if◌then◌else◌, true, false};
 ghost use Rattle.std.specs.Bool.{OnTrue, OnFalse};
 ghost use Rattle.peg_io.specs.Outside.{Rose, Reads, Tells};
 ghost use Rattle.peg_io.specs.Lines.{Gives, Keeps, HasNoFeed, line_of, past_line, Fills, IsReady};
+ghost use Rattle.peg_io.specs.Lines.{EndsAt};
 ghost use Rattle.peg_io.specs.Lines.{has_feed};
 ghost use Rattle.peg_io.specs.Lines.{TakesPart};
 
@@ -34,6 +35,8 @@ pub struct Lines {
     len: usize,
     // How many bytes stand before the first line feed of those that are read ahead.
     feed: usize,
+    // The source said its end, and is not asked again.
+    ended: bool,
 }
 
 impl Model for Lines {
@@ -43,15 +46,19 @@ impl Model for Lines {
     ghost Value = { ReadAhead };
 
     ghost view = { λ l.
-        record { held = slice_range l.buf l.start l.end; line = take l.len l.line } };
+        record {
+          held = slice_range l.buf l.start l.end;
+          line = take l.len l.line;
+          ended = l.ended;
+        } };
 
-    ghost invariant = { λ l. InPlace l.buf l.start l.end l.line l.len l.feed };
+    ghost invariant = { λ l. InPlace l.buf l.start l.end l.line l.len l.feed l.ended };
 }
 
 impl Lines {
     /// A reader that holds nothing.
     pub fn make() -> Lines
-        ensures { result ≡ record { held = []; line = [] } }
+        ensures { result ≡ record { held = []; line = []; ended = false } }
     {
         Lines {
             buf: [0; 4096],
@@ -60,17 +67,21 @@ impl Lines {
             line: [0; 4096],
             len: 0,
             feed: 0,
+            ended: false,
         }
     }
 
     /// Reads the next line, of at most `limit` bytes without its line feed. Nothing of the input is
     /// lost by an answer: what wasn't given stays read ahead, and after `TooLong` and `Failed` the
-    /// taken bytes of the line are the line in place. Where a line feed is read ahead, the source is
-    /// not asked.
+    /// taken bytes of the line are the line in place. The source is not asked where a line feed is
+    /// read ahead, nor after it said its end: so a last line without a line feed is followed by
+    /// `End`.
     pub fn next<S: Source>(&mut self, limit: usize, source: &mut S) -> NextLine
         requires { limit ≤ 4096 }
-        ensures content { Tells (S.left source.old) (S.left source.new)
-            (λ b n. Gives result limit (self.old.held ++ b) self.new.line (self.new.held ++ n)) }
+        ensures content { self.old.ended ≡ false → Tells (S.left source.old) (S.left source.new)
+            (λ b n. Gives result limit (self.old.held ++ b) self.new n) }
+        ensures over { self.old.ended ≡ true
+            → (result ≡ NextLine.End) × (source.new ≡ source.old) }
         ensures keeps { Keeps result limit self.new }
         ensures ahead { has_feed self.old.held ≡ true → source.new ≡ source.old }
         ensures cause { result ≡ NextLine.Failed
@@ -106,7 +117,7 @@ impl Lines {
     }
 
     fn begin(&mut self)
-        ensures { self.new ≡ record { held = self.old.held; line = [] } }
+        ensures { self.new ≡ record self.old { line = [] } }
     {
         self.len = 0;
     }
@@ -130,17 +141,23 @@ impl Lines {
     }
 
     fn fill<S: Source>(&mut self, source: &mut S) -> Got
-        requires { self.old.held ≡ [] }
+        requires none { self.old.held ≡ [] }
+        requires goes_on { self.old.ended ≡ false }
         ensures line { self.new.line ≡ self.old.line }
+        ensures ended { EndsAt result self.new.ended }
         ensures content { Fills result self.new.held (S.left source.old) (S.left source.new) }
         ensures cause { result ≡ Got.Failed → Rose (S.faults source.old) (S.faults source.new) }
         ensures later { S.faults source.old ≤ S.faults source.new }
     {
         let got = source.read(&mut self.buf);
-        if let Got::Bytes(count) = got {
-            self.start = 0;
-            self.end = count;
-            self.feed = count_to_feed(&self.buf[..count]);
+        match got {
+            Got::Bytes(count) => {
+                self.start = 0;
+                self.end = count;
+                self.feed = count_to_feed(&self.buf[..count]);
+            }
+            Got::End => self.ended = true,
+            Got::Failed => {}
         }
         got
     }
@@ -149,13 +166,17 @@ impl Lines {
     fn ready<S: Source>(&mut self, source: &mut S) -> Got
         ensures content { IsReady result self.old self.new (S.left source.old) (S.left source.new) }
         ensures ahead { 0 < length self.old.held → (self.new ≡ self.old) × (source.new ≡ source.old) }
+        ensures over { self.old.ended ≡ true → (result ≡ Got.End) × (source.new ≡ source.old) }
         ensures cause { result ≡ Got.Failed → Rose (S.faults source.old) (S.faults source.new) }
         ensures later { S.faults source.old ≤ S.faults source.new }
     {
-        if self.is_spent() {
-            return self.fill(source);
+        if !self.is_spent() {
+            return Got::Bytes(self.end - self.start);
         }
-        Got::Bytes(self.end - self.start)
+        if self.ended {
+            return Got::End;
+        }
+        self.fill(source)
     }
 
     // Goes on with the line by what is read ahead, and answers where that decides it.
@@ -163,7 +184,8 @@ impl Lines {
         requires limit { limit ≤ 4096 }
         requires fits { length self.old.line ≤ limit }
         requires more { 0 < length self.old.held }
-        ensures { TakesPart result limit self.old self.new }
+        ensures content { TakesPart result limit self.old self.new }
+        ensures ended { self.new.ended ≡ self.old.ended }
     {
         let count = self.feed_place();
         let room = limit - self.line().len();
@@ -189,7 +211,7 @@ impl Lines {
 
     fn skip_feed(&mut self)
         requires { 0 < length self.old.held }
-        ensures { self.new ≡ record { held = drop 1 self.old.held; line = self.old.line } }
+        ensures { self.new ≡ record self.old { held = drop 1 self.old.held } }
     {
         self.start += 1;
         self.feed = count_to_feed(&self.buf[self.start..self.end]);
@@ -198,7 +220,7 @@ impl Lines {
     fn move_to_line(&mut self, count: usize)
         requires held { count ≤ length (line_of self.old.held) }
         requires fits { length self.old.line + count ≤ 4096 }
-        ensures { self.new ≡ record {
+        ensures { self.new ≡ record self.old {
           held = drop count self.old.held;
           line = self.old.line ++ take count self.old.held;
         } }

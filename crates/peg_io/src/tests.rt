@@ -89,6 +89,20 @@ fn lines_of_a_source(rt: HostRuntime) -> Result<(), Fail> {
     Ok(())
 }
 
+// The source would fail if it was asked once more.
+#[test]
+fn end_after_a_line_without_its_feed(rt: HostRuntime) -> Result<(), Fail> {
+    let bytes = Vec::from_slice(rt.alloc(), b"last")?;
+    let fails = Vec::from_slice(rt.alloc(), &[3])?;
+    let mut source = MemorySource::make(bytes, 9, fails);
+    let mut lines = Lines::make();
+    assert_eq!(rt; lines.next(4, &mut source), NextLine::Line);
+    assert_eq!(rt; lines.line(), b"last".as_slice());
+    assert_eq!(rt; lines.next(4, &mut source), NextLine::End);
+    assert_eq!(rt; lines.next(4, &mut source), NextLine::End);
+    Ok(())
+}
+
 #[test]
 fn a_line_too_long(rt: HostRuntime) -> Result<(), Fail> {
     for (limit, want) in [(3, NextLine::TooLong), (4, NextLine::Line)] {

@@ -6,7 +6,7 @@ use Rattle.std.specs.Prelude.{nat_eq, not, drop, ◌||◌}
 use Rattle.std.specs.Bool.{OnFalse}
 use Rattle.std.specs.List.{AllByRecursion, list_any}
 use Rattle.std.proofs.lemmas.Bool.Decides.{nat_tests}
-use Rattle.peg_event.specs.declared.Op.{Op}
+use Rattle.peg_event.specs.declared.history.Op.{Op}
 use Rattle.peg_model.specs.Trace.{order_text}
 use Rattle.peg_model.specs.Judge.{IsOpLine, IsSkipped}
 use Rattle.peg_meaning.specs.CheckWord.{CheckEntry, Skipped, History, Operation, Order, At, Done}

@@ -49,6 +49,9 @@ what_again (packet.Seal target epoch) = refl
 what_again (packet.FenceKey key) = ap packet.FenceKey (bytes_of-number key)
 what_again packet.Clear = refl
 
+pub what_same : (what other : What) → what_code what ≡ what_code other → what ≡ other
+what_same what other e = sym (what_again what) ∙ ap what_back e ∙ what_again other
+
 outcome_back : law.Outcome → Outcome
 outcome_back (law.Listed l) = outcome.Listed l
 outcome_back (law.Already l) = outcome.Already l
@@ -224,7 +227,7 @@ module _ (keys : List (List ℕ)) (w : World) (s : System) (m : Mirrors keys w s
             (law.Command number (what_code what)) (λ i f. f.packet) x)
             (plain_there keys w s m (node.Switch b) (packet.Command number other)
             (law.Command number (what_code other)) (λ i f. f.packet) y) in
-            sym (what_again what) ∙ ap what_back same ∙ what_again other;
+            what_same what other same;
         one_outcome = λ number o other x y.
             let same =
             l.one_outcome number (outcome_code o) (outcome_code other)

@@ -3,7 +3,7 @@ use Rattle.std.proofs.Common.{◌≡◌, ℕ, List, Some, option_map, ap, ◌∙
 use Rattle.std.proofs.Common.{subst, arith}
 use Rattle.peg_name.specs.Name.{Rack}
 use Rattle.peg_name.specs.declared.Node.{Node}
-use Rattle.peg_event.specs.declared.Listing.{Listing}
+use Rattle.peg_event.specs.declared.answers.Listing.{Listing}
 use Rattle.peg_model.specs.Packet as packet
 use Rattle.peg_model.specs.Packet.{Packet}
 use Rattle.peg_model.specs.Rules.{entry_of}

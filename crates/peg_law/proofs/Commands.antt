@@ -10,12 +10,12 @@ use Rattle.std.specs.Str.{bytes_eq}
 use Rattle.peg_name.specs.Name.{Rack, home_of}
 use Rattle.peg_name.specs.declared.Node.{Node}
 use Rattle.peg_name.specs.declared.Node.TheVariants as node
-use Rattle.peg_event.specs.declared.Listing.{Listing}
+use Rattle.peg_event.specs.declared.answers.Listing.{Listing}
 use Rattle.peg_event.specs.declared.Outcome.{Outcome}
 use Rattle.peg_event.specs.declared.Outcome.TheVariants as outcome
-use Rattle.peg_event.specs.declared.CopyFrom.TheVariants as copy_from
-use Rattle.peg_event.specs.declared.FenceOf.TheVariants as fence_at
-use Rattle.peg_event.specs.declared.MarkDid.TheVariants as mark_did
+use Rattle.peg_event.specs.declared.answers.CopyFrom.TheVariants as copy_from
+use Rattle.peg_event.specs.declared.answers.FenceOf.TheVariants as fence_at
+use Rattle.peg_event.specs.declared.answers.MarkDid.TheVariants as mark_did
 use Rattle.peg_model.specs.Packet as packet
 use Rattle.peg_model.specs.Packet.{Packet}
 use Rattle.peg_model.specs.Counts.{Counts, no_counts}

@@ -15,10 +15,10 @@ use Rattle.peg_name.specs.declared.Row.{Row}
 use Rattle.peg_event.specs.declared.Command.{Command}
 use Rattle.peg_event.specs.declared.Command.TheVariants as command
 use Rattle.peg_event.specs.declared.Said.{Said}
-use Rattle.peg_event.specs.declared.Order.{Order}
-use Rattle.peg_event.specs.declared.Order.TheVariants as order
-use Rattle.peg_event.specs.declared.Plan.{Plan}
-use Rattle.peg_event.specs.declared.Plan.TheVariants as plan
+use Rattle.peg_event.specs.declared.answers.Order.{Order}
+use Rattle.peg_event.specs.declared.answers.Order.TheVariants as order
+use Rattle.peg_event.specs.declared.answers.Plan.{Plan}
+use Rattle.peg_event.specs.declared.answers.Plan.TheVariants as plan
 use Rattle.peg_model.specs.Words.{last_number, refuse, below, sorted, Step}
 use Rattle.peg_model.specs.Packet as packet
 use Rattle.peg_model.specs.Packet.{Packet}

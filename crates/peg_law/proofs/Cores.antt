@@ -12,7 +12,7 @@ use Rattle.std.specs.List.{AllByRecursion, IsDistinct}
 use Rattle.std.specs.Map.{set_value, remove_entry, keys_of}
 use Rattle.std.specs.Str.{bytes_eq}
 use Rattle.peg_name.specs.Name.{Rack, home_of}
-use Rattle.peg_event.specs.declared.Listing.{Listing}
+use Rattle.peg_event.specs.declared.answers.Listing.{Listing}
 use Rattle.peg_model.specs.Rules.{Directory, entry_of, server_of_read, server_of_write}
 use Rattle.peg_law.specs.Codes.{number_of, entry_code, entries_code}
 use Rattle.peg_law.specs.Mirrors.{AreServers, rack_code}

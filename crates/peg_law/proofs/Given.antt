@@ -6,11 +6,11 @@ use Rattle.std.proofs.lemmas.Bool.{or_cases, or_right, and_parts}
 use Rattle.std.proofs.lemmas.Grind.{reverse_onto}
 use Rattle.std.specs.Prelude.{reverse}
 use Rattle.std.specs.List.{list_any}
-use Rattle.peg_name.specs.declared.Content.{Content}
-use Rattle.peg_name.specs.declared.Content.TheVariants.{Absent}
+use Rattle.peg_name.specs.declared.value.Content.{Content}
+use Rattle.peg_name.specs.declared.value.Content.TheVariants.{Absent}
 use Rattle.peg_name.specs.declared.Node.{Node}
-use Rattle.peg_event.specs.declared.Act.{Act}
-use Rattle.peg_event.specs.declared.Act.TheVariants as act
+use Rattle.peg_event.specs.declared.history.Act.{Act}
+use Rattle.peg_event.specs.declared.history.Act.TheVariants as act
 use Rattle.peg_model.specs.Once.{IsVoidOf}
 use Rattle.peg_model.specs.Packet as packet
 use Rattle.peg_model.specs.Packet.{Packet}

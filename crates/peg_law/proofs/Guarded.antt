@@ -6,7 +6,7 @@ use Rattle.std.proofs.lemmas.List.{reverse-reverse}
 use Rattle.std.proofs.lemmas.List.Elements.{All-contains}
 use Rattle.std.specs.Prelude.{reverse}
 use Rattle.std.specs.Str.{bytes_eq}
-use Rattle.peg_event.specs.declared.Stored.{Stored}
+use Rattle.peg_event.specs.declared.answers.Stored.{Stored}
 use Rattle.peg_model.specs.World.{World, AppliedFence}
 use Rattle.peg_law.specs.Codes.{number_of, node_code, guard_code}
 use Rattle.peg_law.specs.Covered.{home_at}

@@ -5,19 +5,19 @@ use Rattle.std.proofs.Common.{Some, slice_get, refl, sym, ap, ◌∙◌, subst}
 use Rattle.std.proofs.lemmas.Bool.{cond_both}
 use Rattle.std.proofs.lemmas.Option.{same_Some}
 use Rattle.std.specs.List.{AllByRecursion}
-use Rattle.peg_name.specs.declared.Content.{Content}
+use Rattle.peg_name.specs.declared.value.Content.{Content}
 use Rattle.peg_name.specs.declared.Node.{Node}
 use Rattle.peg_name.specs.declared.Node.TheVariants as node
-use Rattle.peg_event.specs.declared.Ask.{Ask}
-use Rattle.peg_event.specs.declared.Ask.TheVariants as ask
-use Rattle.peg_event.specs.declared.Forward.{Forward}
-use Rattle.peg_event.specs.declared.Forward.TheVariants as forward
+use Rattle.peg_event.specs.declared.answers.Ask.{Ask}
+use Rattle.peg_event.specs.declared.answers.Ask.TheVariants as ask
+use Rattle.peg_event.specs.declared.answers.Forward.{Forward}
+use Rattle.peg_event.specs.declared.answers.Forward.TheVariants as forward
 use Rattle.peg_event.specs.declared.Line.{Line}
 use Rattle.peg_event.specs.declared.Said.{Said}
 use Rattle.peg_event.specs.declared.ServerDid.TheVariants as server_did
 use Rattle.peg_event.specs.declared.SwitchDid.TheVariants as switch_did
-use Rattle.peg_event.specs.declared.WriteDid.{WriteDid}
-use Rattle.peg_event.specs.declared.WriteDid.TheVariants as write_did
+use Rattle.peg_event.specs.declared.answers.WriteDid.{WriteDid}
+use Rattle.peg_event.specs.declared.answers.WriteDid.TheVariants as write_did
 use Rattle.peg_model.specs.Words.{refuse}
 use Rattle.peg_model.specs.Packet.{Packet, ToServerRead, ToServerWrite, ReadReply, WriteReply, Void}
 use Rattle.peg_model.specs.Rules.{Core, read_request, write_request}

@@ -9,10 +9,10 @@ use Rattle.std.proofs.lemmas.Slice.Eq.{bytes_eq-Decides}
 use Rattle.std.specs.List.{AllByRecursion, IsDistinct}
 use Rattle.std.specs.Str.{bytes_eq}
 use Rattle.peg_name.specs.Name.{Rack}
-use Rattle.peg_name.specs.declared.Content.TheVariants.{Absent, Present}
+use Rattle.peg_name.specs.declared.value.Content.TheVariants.{Absent, Present}
 use Rattle.peg_name.specs.declared.Node.{Node}
 use Rattle.peg_name.specs.declared.Node.TheVariants as node
-use Rattle.peg_event.specs.declared.Ask.TheVariants as ask
+use Rattle.peg_event.specs.declared.answers.Ask.TheVariants as ask
 use Rattle.peg_event.specs.declared.Command.TheVariants as command
 use Rattle.peg_event.specs.declared.Event.{Event}
 use Rattle.peg_event.specs.declared.Event.TheVariants as event

@@ -6,9 +6,9 @@ use Rattle.std.proofs.Common.{if◌then◌else◌}
 use Rattle.std.specs.Prelude.{unwrap_or}
 use Rattle.std.specs.List.{list_any}
 use Rattle.std.specs.Str.{bytes_eq}
-use Rattle.peg_name.specs.declared.Content.{Content}
-use Rattle.peg_event.specs.declared.Act.{Act}
-use Rattle.peg_event.specs.declared.Act.TheVariants as act
+use Rattle.peg_name.specs.declared.value.Content.{Content}
+use Rattle.peg_event.specs.declared.history.Act.{Act}
+use Rattle.peg_event.specs.declared.history.Act.TheVariants as act
 use Rattle.peg_model.specs.Words.{last_number, sorted, placed}
 use Rattle.peg_model.specs.Order.{Tagged, tagged, was_read, is_printed, stands_before, lesser, rank}
 use Rattle.peg_model.specs.Order as order

@@ -14,12 +14,12 @@ use Rattle.std.specs.Map.{keys_of}
 use Rattle.std.specs.Str.{bytes_eq}
 use Rattle.peg_name.specs.Name.{Rack, IsKey, home_of}
 use Rattle.peg_name.specs.declared.Node.TheVariants as node
-use Rattle.peg_event.specs.declared.Listing.{Listing}
+use Rattle.peg_event.specs.declared.answers.Listing.{Listing}
 use Rattle.peg_event.specs.declared.Outcome.TheVariants as outcome
-use Rattle.peg_event.specs.declared.Promoted.{Promoted}
+use Rattle.peg_event.specs.declared.answers.Promoted.{Promoted}
 use Rattle.peg_event.specs.declared.Said.TheVariants as said
 use Rattle.peg_event.specs.declared.SwitchDid.TheVariants as did
-use Rattle.peg_event.specs.declared.Promoted.TheVariants as promoted
+use Rattle.peg_event.specs.declared.answers.Promoted.TheVariants as promoted
 use Rattle.peg_model.specs.Words.{last_number}
 use Rattle.peg_model.specs.Packet as packet
 use Rattle.peg_model.specs.Rules as rules

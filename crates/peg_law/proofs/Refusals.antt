@@ -2,37 +2,37 @@
 use Rattle.std.proofs.Common.{◌≡◌, ◌+◌, ◌-◌, ◌==◌, not, ℕ, Bool, true, false, List, [], ◌∷◌, Option}
 use Rattle.std.proofs.Common.{Some, None, refl, sym, ◌∙◌, ◌++◌, take, filter}
 use Rattle.std.specs.Prelude.{if◌then◌else◌, is_none, is_some, nat_lt, length}
-use Rattle.peg_name.specs.declared.Content.{Content}
+use Rattle.peg_name.specs.declared.value.Content.{Content}
 use Rattle.peg_name.specs.declared.Format.{Format}
 use Rattle.peg_name.specs.declared.Node.{Node}
 use Rattle.peg_name.specs.declared.Node.TheVariants as node
 use Rattle.peg_name.specs.declared.Row.{Row}
-use Rattle.peg_event.specs.declared.Apply.{Apply}
-use Rattle.peg_event.specs.declared.Apply.TheVariants as apply
-use Rattle.peg_event.specs.declared.Ask.{Ask}
+use Rattle.peg_event.specs.declared.answers.Apply.{Apply}
+use Rattle.peg_event.specs.declared.answers.Apply.TheVariants as apply
+use Rattle.peg_event.specs.declared.answers.Ask.{Ask}
 use Rattle.peg_event.specs.declared.ClientDid.{ClientDid}
 use Rattle.peg_event.specs.declared.ClientDid.TheVariants as client_did
 use Rattle.peg_event.specs.declared.Command.{Command}
 use Rattle.peg_event.specs.declared.ControlDid.{ControlDid}
 use Rattle.peg_event.specs.declared.ControlDid.TheVariants as control_did
-use Rattle.peg_event.specs.declared.CopyFrom.{CopyFrom}
-use Rattle.peg_event.specs.declared.CopyFrom.TheVariants as copy_from
-use Rattle.peg_event.specs.declared.FenceOf.{FenceOf}
-use Rattle.peg_event.specs.declared.FenceOf.TheVariants as fence_at
-use Rattle.peg_event.specs.declared.Forward.{Forward}
-use Rattle.peg_event.specs.declared.Forward.TheVariants as forward
-use Rattle.peg_event.specs.declared.Stored.{Stored}
-use Rattle.peg_event.specs.declared.FenceDid.{FenceDid}
-use Rattle.peg_event.specs.declared.FenceDid.TheVariants as fence_did
-use Rattle.peg_event.specs.declared.Issue.TheVariants as issue
-use Rattle.peg_event.specs.declared.Order.TheVariants as order
+use Rattle.peg_event.specs.declared.answers.CopyFrom.{CopyFrom}
+use Rattle.peg_event.specs.declared.answers.CopyFrom.TheVariants as copy_from
+use Rattle.peg_event.specs.declared.answers.FenceOf.{FenceOf}
+use Rattle.peg_event.specs.declared.answers.FenceOf.TheVariants as fence_at
+use Rattle.peg_event.specs.declared.answers.Forward.{Forward}
+use Rattle.peg_event.specs.declared.answers.Forward.TheVariants as forward
+use Rattle.peg_event.specs.declared.answers.Stored.{Stored}
+use Rattle.peg_event.specs.declared.answers.FenceDid.{FenceDid}
+use Rattle.peg_event.specs.declared.answers.FenceDid.TheVariants as fence_did
+use Rattle.peg_event.specs.declared.answers.Issue.TheVariants as issue
+use Rattle.peg_event.specs.declared.answers.Order.TheVariants as order
 use Rattle.peg_event.specs.declared.Outcome.{Outcome}
-use Rattle.peg_event.specs.declared.Plan.TheVariants as plan
-use Rattle.peg_event.specs.declared.Pending.{Pending}
+use Rattle.peg_event.specs.declared.answers.Plan.TheVariants as plan
+use Rattle.peg_event.specs.declared.answers.Pending.{Pending}
 use Rattle.peg_event.specs.declared.ServerDid.TheVariants as server_did
 use Rattle.peg_event.specs.declared.SwitchDid.TheVariants as switch_did
-use Rattle.peg_event.specs.declared.WriteDid.{WriteDid}
-use Rattle.peg_event.specs.declared.WriteDid.TheVariants as write_did
+use Rattle.peg_event.specs.declared.answers.WriteDid.{WriteDid}
+use Rattle.peg_event.specs.declared.answers.WriteDid.TheVariants as write_did
 use Rattle.peg_model.specs.Words.{Step, refuse, last_number}
 use Rattle.peg_model.specs.Packet as packet
 use Rattle.peg_model.specs.Packet.{Packet, What}

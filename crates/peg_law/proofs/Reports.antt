@@ -14,7 +14,7 @@ use Rattle.peg_name.specs.Name.{Rack, IsKey, home_of}
 use Rattle.peg_name.specs.Holders.{with_holder}
 use Rattle.peg_name.specs.declared.Note.{Note}
 use Rattle.peg_name.specs.declared.Note.TheVariants as note
-use Rattle.peg_event.specs.declared.Listing.{Listing}
+use Rattle.peg_event.specs.declared.answers.Listing.{Listing}
 use Rattle.peg_model.specs.Rules.{Stamps, Directory, entry_of, reported, ends, note_of, note_reply}
 use Rattle.peg_model.specs.Rules.{held_also_by, is_held_by}
 use Rattle.peg_law.specs.Codes.{number_of, entry_code, entries_code}

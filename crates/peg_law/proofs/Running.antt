@@ -2,8 +2,8 @@
 use Rattle.std.proofs.Common.{◌≡◌, ◌+◌, ◌++◌, ℕ, List, [], ◌∷◌, refl, sym, ap, ◌∙◌, subst, arith}
 use Rattle.std.specs.List.{AllByRecursion}
 use Rattle.peg_name.specs.Name.{Rack}
-use Rattle.peg_name.specs.declared.Content.TheVariants.{Absent, Present}
-use Rattle.peg_event.specs.declared.Ask.TheVariants as ask
+use Rattle.peg_name.specs.declared.value.Content.TheVariants.{Absent, Present}
+use Rattle.peg_event.specs.declared.answers.Ask.TheVariants as ask
 use Rattle.peg_event.specs.declared.Command.TheVariants as command
 use Rattle.peg_event.specs.declared.Event.{Event}
 use Rattle.peg_event.specs.declared.Event.TheVariants as event

@@ -8,7 +8,7 @@ use Rattle.peg_event.specs.declared.Event.{Event}
 use Rattle.peg_event.specs.declared.Event.TheVariants.{Read, Write, Deliver, GiveUp}
 use Rattle.peg_event.specs.declared.ClientDid.TheVariants as did
 use Rattle.peg_event.specs.declared.Said.TheVariants as said
-use Rattle.peg_name.specs.declared.Content.TheVariants.{Present}
+use Rattle.peg_name.specs.declared.value.Content.TheVariants.{Present}
 use Rattle.peg_model.specs.World.{start, happens}
 use Rattle.peg_model.specs.Switch.{switch_step}
 use Rattle.peg_model.specs.Server.{server_step}

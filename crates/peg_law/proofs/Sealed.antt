@@ -4,7 +4,7 @@ use Rattle.std.proofs.Common.{cond, length, map, Some, None, refl, sym, ap, â—Œâ
 use Rattle.std.proofs.Common.{arith}
 use Rattle.std.proofs.lemmas.List.{length-map}
 use Rattle.peg_name.specs.Name.{Rack}
-use Rattle.peg_event.specs.declared.Listing.{Listing}
+use Rattle.peg_event.specs.declared.answers.Listing.{Listing}
 use Rattle.peg_event.specs.declared.SwitchDid.TheVariants as did
 use Rattle.peg_model.specs.Words.{last_number, refuse, below}
 use Rattle.peg_model.specs.Packet as packet

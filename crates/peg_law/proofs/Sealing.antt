@@ -13,7 +13,7 @@ use Rattle.std.specs.List.{AllByRecursion, IsDistinct, list_all}
 use Rattle.std.specs.Map.{keys_of}
 use Rattle.std.specs.Str.{bytes_eq}
 use Rattle.peg_name.specs.Name.{Rack, IsKey}
-use Rattle.peg_event.specs.declared.Listing.{Listing}
+use Rattle.peg_event.specs.declared.answers.Listing.{Listing}
 use Rattle.peg_model.specs.Words.{last_number, below, is_in}
 use Rattle.peg_model.specs.Packet.{is_number, is_positive, is_key, are_distinct}
 use Rattle.peg_model.specs.Rules.{Stamps, Directory, entry_of}

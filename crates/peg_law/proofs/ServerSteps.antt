@@ -6,8 +6,8 @@ use Rattle.std.proofs.lemmas.Slice.Eq.{bytes_eq-Decides}
 use Rattle.std.proofs.lemmas.Bool.{cond-true}
 use Rattle.std.specs.Str.{bytes_eq}
 use Rattle.peg_name.specs.Name.{Rack}
-use Rattle.peg_name.specs.declared.Content.{Content}
-use Rattle.peg_event.specs.declared.Stored.{Stored}
+use Rattle.peg_name.specs.declared.value.Content.{Content}
+use Rattle.peg_event.specs.declared.answers.Stored.{Stored}
 use Rattle.peg_event.specs.declared.ServerDid.TheVariants as did
 use Rattle.peg_model.specs.Words.{refuse}
 use Rattle.peg_model.specs.Packet.{Packet}

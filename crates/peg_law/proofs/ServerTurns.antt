@@ -7,13 +7,13 @@ use Rattle.std.proofs.lemmas.Grind.{reverse_onto}
 use Rattle.std.proofs.lemmas.List.{map-append}
 use Rattle.std.specs.Prelude.{reverse}
 use Rattle.std.specs.Str.{bytes_eq}
-use Rattle.peg_name.specs.declared.Content.{Content}
+use Rattle.peg_name.specs.declared.value.Content.{Content}
 use Rattle.peg_name.specs.declared.Node.TheVariants as node
-use Rattle.peg_event.specs.declared.Stored.{Stored}
+use Rattle.peg_event.specs.declared.answers.Stored.{Stored}
 use Rattle.peg_event.specs.declared.ServerDid.TheVariants as did
-use Rattle.peg_event.specs.declared.Apply.TheVariants as apply
-use Rattle.peg_event.specs.declared.WriteDid.TheVariants as write_did
-use Rattle.peg_event.specs.declared.FenceDid.TheVariants as fence_did
+use Rattle.peg_event.specs.declared.answers.Apply.TheVariants as apply
+use Rattle.peg_event.specs.declared.answers.WriteDid.TheVariants as write_did
+use Rattle.peg_event.specs.declared.answers.FenceDid.TheVariants as fence_did
 use Rattle.peg_model.specs.Words.{refuse}
 use Rattle.peg_model.specs.Packet as packet
 use Rattle.peg_model.specs.Packet.{Packet}

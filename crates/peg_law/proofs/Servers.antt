@@ -2,16 +2,16 @@
 use Rattle.std.proofs.Common.{◌==◌, ℕ}
 use Rattle.std.proofs.Common.{List, [], ◌∷◌}
 use Rattle.std.proofs.lemmas.Bool.{cond_both}
-use Rattle.peg_name.specs.declared.Content.{Content}
+use Rattle.peg_name.specs.declared.value.Content.{Content}
 use Rattle.peg_name.specs.declared.Node.TheVariants as node
 use Rattle.peg_event.specs.declared.ServerDid.TheVariants as server_did
-use Rattle.peg_event.specs.declared.Apply.{Apply}
-use Rattle.peg_event.specs.declared.Apply.TheVariants as apply
-use Rattle.peg_event.specs.declared.WriteDid.{WriteDid}
-use Rattle.peg_event.specs.declared.WriteDid.TheVariants as write_did
-use Rattle.peg_event.specs.declared.FenceDid.{FenceDid}
-use Rattle.peg_event.specs.declared.FenceDid.TheVariants as fence_did
-use Rattle.peg_event.specs.declared.Stored.{Stored}
+use Rattle.peg_event.specs.declared.answers.Apply.{Apply}
+use Rattle.peg_event.specs.declared.answers.Apply.TheVariants as apply
+use Rattle.peg_event.specs.declared.answers.WriteDid.{WriteDid}
+use Rattle.peg_event.specs.declared.answers.WriteDid.TheVariants as write_did
+use Rattle.peg_event.specs.declared.answers.FenceDid.{FenceDid}
+use Rattle.peg_event.specs.declared.answers.FenceDid.TheVariants as fence_did
+use Rattle.peg_event.specs.declared.answers.Stored.{Stored}
 use Rattle.peg_model.specs.Words.{refuse}
 use Rattle.peg_model.specs.Packet as packet
 use Rattle.peg_model.specs.Packet.{Packet}

@@ -6,7 +6,7 @@ use Rattle.std.specs.List.{list_any}
 use Rattle.peg_name.specs.declared.Node.TheVariants as node
 use Rattle.peg_event.specs.declared.Command.{Command}
 use Rattle.peg_event.specs.declared.Command.TheVariants as command
-use Rattle.peg_event.specs.declared.Listing.{Listing}
+use Rattle.peg_event.specs.declared.answers.Listing.{Listing}
 use Rattle.peg_event.specs.declared.Outcome.{Outcome}
 use Rattle.peg_event.specs.declared.Outcome.TheVariants as outcome
 use Rattle.peg_model.specs.Controller.{what_of, belongs}
@@ -17,6 +17,7 @@ use Rattle.peg_model.specs.World.{World, switch_of}
 use Rattle.peg_law.specs.Codes.{number_of, what_code, outcome_code, entry_code}
 use Rattle.peg_law.specs.Mirrors.{Mirrors, mode_code}
 use Rattle.peg_law.specs.Settled.{names_key, is_unmarked, IsHandingOver, CommandsSettle}
+use Rattle.peg_law.proofs.Agreed.{what_same}
 use Rattle.peg_law.proofs.Codes.{number_test}
 use Rattle.peg_law.proofs.Cores.{entry_is}
 use Rattle.peg_law.proofs.Covered.{current_here, plain_there}
@@ -99,6 +100,14 @@ module _ (keys : List (List ℕ)) (w : World) (s : System) (m : Mirrors keys w s
             (law.Command number (what_code what)) (λ i f. f.packet) x)
             (plain_there keys w s m node.Controller (packet.CommandAck number o)
             (law.Ack number (outcome_code o)) (λ i f. f.packet) y);
+        pending = λ a what k e x.
+            what_same what (what_of w.controller.epoch k)
+            (l.pending a (what_code (what_of w.controller.epoch k)) (what_code what)
+            (m.controller.pending_is ∙ ap (option_map (λ o. what_code (what_of w.controller.epoch o))) e)
+            (subst (λ n. Contains s.sent (law.item (law.Switch a) (law.Command n (what_code what))))
+            (sym m.controller.number_is)
+            (plain_there keys w s m (node.Switch a) (packet.Command w.controller.last what)
+            (law.Command w.controller.last (what_code what)) (λ i f. f.packet) x)));
         known = λ key e.
             sym (ap (list_any (λ j. j == number_of key)) m.controller.known_is
             ∙ any_known key w.controller.known)

@@ -7,8 +7,8 @@ use Rattle.std.proofs.lemmas.Bool.Decides.{nat_tests}
 use Rattle.std.proofs.lemmas.List.{length-set}
 use Rattle.std.specs.Prelude.{slice_set}
 use Rattle.peg_name.specs.Name.{Rack}
-use Rattle.peg_event.specs.declared.Stamp.{Stamp}
-use Rattle.peg_event.specs.declared.Stamp.TheVariants as stamp
+use Rattle.peg_event.specs.declared.answers.Stamp.{Stamp}
+use Rattle.peg_event.specs.declared.answers.Stamp.TheVariants as stamp
 use Rattle.peg_model.specs.Words.{last_number}
 use Rattle.peg_model.specs.Rules.{Stamps, Directory, row_of, stamp_over}
 use Rattle.peg_law.specs.Mirrors.{CoreFits, row_told}

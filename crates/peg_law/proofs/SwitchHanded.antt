@@ -5,7 +5,7 @@ use Rattle.std.proofs.Common.{cond, Option, Some, None, refl, sym, ap, ◌∙◌
 use Rattle.std.proofs.Common.{arith, eqb-true, lt-ltb}
 use Rattle.std.proofs.lemmas.Bool.{and_from}
 use Rattle.peg_name.specs.Name.{Rack, IsKey}
-use Rattle.peg_name.specs.declared.Content.{Content}
+use Rattle.peg_name.specs.declared.value.Content.{Content}
 use Rattle.peg_name.specs.declared.Node.TheVariants as node
 use Rattle.peg_event.specs.declared.Outcome.{Outcome}
 use Rattle.peg_event.specs.declared.SwitchDid.TheVariants as did

@@ -5,7 +5,7 @@ use Rattle.std.proofs.Common.{arith}
 use Rattle.std.proofs.lemmas.List.{length-set, set-get_or}
 use Rattle.std.specs.Prelude.{slice_set, slice_index_or}
 use Rattle.peg_name.specs.Name.{Rack, home_of}
-use Rattle.peg_name.specs.declared.Content.{Content}
+use Rattle.peg_name.specs.declared.value.Content.{Content}
 use Rattle.peg_name.specs.declared.Node.TheVariants as node
 use Rattle.peg_model.specs.Packet as packet
 use Rattle.peg_model.specs.Packet.{Packet}

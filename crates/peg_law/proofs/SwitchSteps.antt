@@ -6,10 +6,10 @@ use Rattle.std.proofs.Common.{arith, eqb-true}
 use Rattle.std.proofs.lemmas.Bool.{cond_both, and_parts}
 use Rattle.std.specs.Str.{bytes_eq}
 use Rattle.peg_name.specs.Name.{IsKey}
-use Rattle.peg_name.specs.declared.Content.{Content}
+use Rattle.peg_name.specs.declared.value.Content.{Content}
 use Rattle.peg_name.specs.declared.Node.TheVariants as node
-use Rattle.peg_event.specs.declared.Stamp.{Stamp}
-use Rattle.peg_event.specs.declared.Stamp.TheVariants as stamp
+use Rattle.peg_event.specs.declared.answers.Stamp.{Stamp}
+use Rattle.peg_event.specs.declared.answers.Stamp.TheVariants as stamp
 use Rattle.peg_model.specs.Words.{last_number}
 use Rattle.peg_model.specs.Packet as packet
 use Rattle.peg_model.specs.Packet.{Packet}

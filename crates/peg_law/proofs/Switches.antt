@@ -4,16 +4,16 @@ use Rattle.std.proofs.Common.{List, [], length, Option, Some, None}
 use Rattle.std.proofs.lemmas.Bool.{cond_both}
 use Rattle.std.specs.Prelude.{slice_index_or}
 use Rattle.std.specs.List.{AllByRecursion}
-use Rattle.peg_name.specs.declared.Content.{Content}
+use Rattle.peg_name.specs.declared.value.Content.{Content}
 use Rattle.peg_name.specs.declared.Node.TheVariants as node
 use Rattle.peg_event.specs.declared.Outcome.{Outcome}
 use Rattle.peg_event.specs.declared.SwitchDid.TheVariants as switch_did
-use Rattle.peg_event.specs.declared.Forward.{Forward}
-use Rattle.peg_event.specs.declared.Forward.TheVariants as forward
-use Rattle.peg_event.specs.declared.CopyFrom.{CopyFrom}
-use Rattle.peg_event.specs.declared.CopyFrom.TheVariants as copy_from
-use Rattle.peg_event.specs.declared.FenceOf.{FenceOf}
-use Rattle.peg_event.specs.declared.FenceOf.TheVariants as fence_at
+use Rattle.peg_event.specs.declared.answers.Forward.{Forward}
+use Rattle.peg_event.specs.declared.answers.Forward.TheVariants as forward
+use Rattle.peg_event.specs.declared.answers.CopyFrom.{CopyFrom}
+use Rattle.peg_event.specs.declared.answers.CopyFrom.TheVariants as copy_from
+use Rattle.peg_event.specs.declared.answers.FenceOf.{FenceOf}
+use Rattle.peg_event.specs.declared.answers.FenceOf.TheVariants as fence_at
 use Rattle.peg_model.specs.Words.{refuse, below}
 use Rattle.peg_model.specs.Packet as packet
 use Rattle.peg_model.specs.Packet.{Packet, What}

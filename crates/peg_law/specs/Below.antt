@@ -3,7 +3,7 @@
 --     VersionsAreBelow w      each version that is held, sent, in a client's row or in an entry
 use Rattle.std.specs.Prelude.{◌≡◌, ◌≤◌, ◌<◌, ℕ, List, Some, Contains}
 use Rattle.peg_name.specs.declared.Node.{Node}
-use Rattle.peg_event.specs.declared.Listing.{Listing}
+use Rattle.peg_event.specs.declared.answers.Listing.{Listing}
 use Rattle.peg_model.specs.Packet.{Packet, ToServerWrite, ReadReply, WriteReply, CopyData, Held}
 use Rattle.peg_model.specs.Packet.{Fence, Void}
 use Rattle.peg_model.specs.Rules.{entry_of, row_of}

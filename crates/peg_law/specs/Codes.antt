@@ -4,19 +4,19 @@
 --     what_code, outcome_code, packet_code      commands, outcomes and packets
 use Rattle.std.specs.Prelude.{◌+◌, ◌*◌, ◌/◌, ◌%◌, ◌^◌, ◌==◌, ℕ, zero, suc, List, [], ◌∷◌}
 use Rattle.std.specs.Prelude.{Option, Some, None, map, if◌then◌else◌}
-use Rattle.peg_name.specs.declared.Content.{Content}
-use Rattle.peg_name.specs.declared.Content.TheVariants.{Absent, Present}
+use Rattle.peg_name.specs.declared.value.Content.{Content}
+use Rattle.peg_name.specs.declared.value.Content.TheVariants.{Absent, Present}
 use Rattle.peg_name.specs.declared.Node.{Node}
 use Rattle.peg_name.specs.declared.Node.TheVariants as node
-use Rattle.peg_event.specs.declared.Act.{Act}
-use Rattle.peg_event.specs.declared.Act.TheVariants as act
-use Rattle.peg_event.specs.declared.Ask.{Ask}
-use Rattle.peg_event.specs.declared.Ask.TheVariants as ask
-use Rattle.peg_event.specs.declared.Listing.{Listing}
+use Rattle.peg_event.specs.declared.history.Act.{Act}
+use Rattle.peg_event.specs.declared.history.Act.TheVariants as act
+use Rattle.peg_event.specs.declared.answers.Ask.{Ask}
+use Rattle.peg_event.specs.declared.answers.Ask.TheVariants as ask
+use Rattle.peg_event.specs.declared.answers.Listing.{Listing}
 use Rattle.peg_event.specs.declared.Outcome.{Outcome}
 use Rattle.peg_event.specs.declared.Outcome.TheVariants as outcome
-use Rattle.peg_event.specs.declared.Stored.{Stored}
-use Rattle.peg_event.specs.declared.Op.{Op}
+use Rattle.peg_event.specs.declared.answers.Stored.{Stored}
+use Rattle.peg_event.specs.declared.history.Op.{Op}
 use Rattle.peg_model.specs.Packet as packet
 use Rattle.peg_model.specs.Packet.{Packet, What}
 use Rattle.peg_model.specs.Rules.{Directory}

@@ -7,10 +7,10 @@ use Rattle.std.specs.Prelude.{◌≡◌, ◌≢◌, ◌≤◌, ◌<◌, ◌⊎�
 use Rattle.std.specs.Prelude.{max, if◌then◌else◌, Contains}
 use Rattle.std.specs.Str.{bytes_eq}
 use Rattle.peg_name.specs.Name.{home_of}
-use Rattle.peg_name.specs.declared.Content.{Content}
+use Rattle.peg_name.specs.declared.value.Content.{Content}
 use Rattle.peg_name.specs.declared.Node.{Node}
 use Rattle.peg_name.specs.declared.Node.TheVariants as node
-use Rattle.peg_event.specs.declared.Listing.{Listing}
+use Rattle.peg_event.specs.declared.answers.Listing.{Listing}
 use Rattle.peg_model.specs.Packet.{Packet, ToServerWrite, ReadReply, WriteReply, CopyData, Held}
 use Rattle.peg_model.specs.Rules.{entry_of}
 use Rattle.peg_model.specs.Server.{held}

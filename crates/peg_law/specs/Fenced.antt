@@ -3,11 +3,11 @@
 --     KeyIsFenced w key entry      what holds of the fences of a key, listed or not
 --     KeysAreFenced w      the same of each key, of the current directory
 use Rattle.std.specs.Prelude.{◌≡◌, ◌≢◌, ◌≤◌, ◌<◌, ◌⊎◌, ℕ, List, Option, Some, None, Contains}
-use Rattle.peg_name.specs.declared.Content.{Content}
+use Rattle.peg_name.specs.declared.value.Content.{Content}
 use Rattle.peg_name.specs.declared.Node.{Node}
 use Rattle.peg_name.specs.declared.Node.TheVariants as node
-use Rattle.peg_event.specs.declared.Listing.{Listing}
-use Rattle.peg_event.specs.declared.Stored.{Stored}
+use Rattle.peg_event.specs.declared.answers.Listing.{Listing}
+use Rattle.peg_event.specs.declared.answers.Stored.{Stored}
 use Rattle.peg_model.specs.Packet.{Packet, ToServerWrite, CopyData, Fence, Void}
 use Rattle.peg_model.specs.Rules.{entry_of}
 use Rattle.peg_model.specs.Server.{held}

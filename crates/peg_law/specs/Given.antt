@@ -6,10 +6,10 @@
 --     VersionsAreGiven w      the same of each pair, each version and each row
 use Rattle.std.specs.Prelude.{◌≡◌, ◌≤◌, ◌<◌, ◌+◌, ◌==◌, ◌⊎◌, ℕ, List, [], ◌∷◌, Contains}
 use Rattle.std.specs.Prelude.{if◌then◌else◌}
-use Rattle.peg_name.specs.declared.Content.{Content}
-use Rattle.peg_name.specs.declared.Content.TheVariants.{Absent}
+use Rattle.peg_name.specs.declared.value.Content.{Content}
+use Rattle.peg_name.specs.declared.value.Content.TheVariants.{Absent}
 use Rattle.peg_name.specs.declared.Node.{Node}
-use Rattle.peg_event.specs.declared.Act.TheVariants as act
+use Rattle.peg_event.specs.declared.history.Act.TheVariants as act
 use Rattle.peg_model.specs.Once.{IsVoidOf}
 use Rattle.peg_model.specs.Packet.{Packet, ToServerWrite, ReadReply, CopyData}
 use Rattle.peg_model.specs.Rules.{row_of}

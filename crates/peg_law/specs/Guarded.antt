@@ -5,7 +5,7 @@
 use Rattle.std.specs.Prelude.{◌≡◌, ℕ, List, [], ◌∷◌, filter, reverse, Contains}
 use Rattle.std.specs.Str.{bytes_eq}
 use Rattle.peg_name.specs.declared.Node.{Node}
-use Rattle.peg_event.specs.declared.Stored.{Stored}
+use Rattle.peg_event.specs.declared.answers.Stored.{Stored}
 use Rattle.peg_model.specs.Packet.{Fence}
 use Rattle.peg_model.specs.World.{World, AppliedFence}
 use Rattle.peg_law.specs.Covered.{home_at}

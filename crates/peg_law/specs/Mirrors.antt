@@ -11,17 +11,17 @@ use Rattle.std.specs.Map.{keys_of}
 use Rattle.std.specs.Str.{bytes_eq}
 use Rattle.peg_name.specs.Name.{Rack, InLimits, IsKey, home_of}
 use Rattle.peg_grammar.specs.State.{SpellsState, is_rising}
-use Rattle.peg_name.specs.declared.Content.{Content}
+use Rattle.peg_name.specs.declared.value.Content.{Content}
 use Rattle.peg_name.specs.declared.Node.{Node}
 use Rattle.peg_name.specs.declared.Row as counted
 use Rattle.peg_name.specs.declared.Node.TheVariants as node
-use Rattle.peg_event.specs.declared.Act.{Act}
-use Rattle.peg_event.specs.declared.Act.TheVariants as act
+use Rattle.peg_event.specs.declared.history.Act.{Act}
+use Rattle.peg_event.specs.declared.history.Act.TheVariants as act
 use Rattle.peg_event.specs.declared.Command.{Command}
 use Rattle.peg_event.specs.declared.Command.TheVariants as command
-use Rattle.peg_event.specs.declared.Listing.{Listing}
+use Rattle.peg_event.specs.declared.answers.Listing.{Listing}
 use Rattle.peg_event.specs.declared.Outcome.{Outcome}
-use Rattle.peg_event.specs.declared.Pending.{Pending}
+use Rattle.peg_event.specs.declared.answers.Pending.{Pending}
 use Rattle.peg_model.specs.Words.{below, last_number}
 use Rattle.peg_model.specs.Packet as packet
 use Rattle.peg_model.specs.Packet.{Packet, What}

@@ -4,7 +4,7 @@
 --     ReachesWhatWasAnswered w      reads reach it, and writes are above it
 use Rattle.std.specs.Prelude.{◌≤◌, ◌<◌, ◌==◌, ◌&&◌, ℕ, Bool, false, List, [], ◌∷◌, Contains}
 use Rattle.std.specs.Prelude.{if◌then◌else◌}
-use Rattle.peg_name.specs.declared.Content.{Content}
+use Rattle.peg_name.specs.declared.value.Content.{Content}
 use Rattle.peg_name.specs.declared.Node.{Node}
 use Rattle.peg_name.specs.declared.Node.TheVariants as node
 use Rattle.peg_model.specs.Packet.{Packet, Read, Write, ToServerRead, ToServerWrite, ReadReply}

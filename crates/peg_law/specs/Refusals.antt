@@ -8,12 +8,12 @@ use Rattle.peg_event.specs.declared.ClientDid.{ClientDid}
 use Rattle.peg_event.specs.declared.ClientDid.TheVariants as client_did
 use Rattle.peg_event.specs.declared.ControlDid.{ControlDid}
 use Rattle.peg_event.specs.declared.ControlDid.TheVariants as control_did
-use Rattle.peg_event.specs.declared.Issue.{Issue}
-use Rattle.peg_event.specs.declared.Issue.TheVariants as issue
-use Rattle.peg_event.specs.declared.Order.{Order}
-use Rattle.peg_event.specs.declared.Order.TheVariants as order
-use Rattle.peg_event.specs.declared.Plan.{Plan}
-use Rattle.peg_event.specs.declared.Plan.TheVariants as plan
+use Rattle.peg_event.specs.declared.answers.Issue.{Issue}
+use Rattle.peg_event.specs.declared.answers.Issue.TheVariants as issue
+use Rattle.peg_event.specs.declared.answers.Order.{Order}
+use Rattle.peg_event.specs.declared.answers.Order.TheVariants as order
+use Rattle.peg_event.specs.declared.answers.Plan.{Plan}
+use Rattle.peg_event.specs.declared.answers.Plan.TheVariants as plan
 use Rattle.peg_event.specs.declared.ServerDid.{ServerDid}
 use Rattle.peg_event.specs.declared.ServerDid.TheVariants as server_did
 use Rattle.peg_event.specs.declared.SwitchDid.{SwitchDid}

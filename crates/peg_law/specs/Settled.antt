@@ -1,8 +1,9 @@
 -- What the commands and their outcomes tell the controller, in a world.
 --     names_key command key      the command is about the key
 --     is_unmarked entry      the key is listed, without a mark
---     CommandsSettle w      an outcome can belong to its command, the controller knows the listed
---         keys but for the pending command's, and a sealed state has its handover pending
+--     CommandsSettle w      an outcome can belong to its command, the pending command is the one
+--         that was sent with its number, the controller knows the listed keys but for the pending
+--         command's, and a sealed state has its handover pending
 use Rattle.std.specs.Prelude.{◌≡◌, ◌+◌, ℕ, Bool, true, false, List, Option, Some, None, IsSome}
 use Rattle.std.specs.Prelude.{Contains, is_none}
 use Rattle.std.specs.Str.{bytes_eq}
@@ -10,10 +11,10 @@ use Rattle.peg_name.specs.declared.Node.TheVariants as node
 use Rattle.peg_event.specs.declared.Command.{Command}
 use Rattle.peg_event.specs.declared.Command.TheVariants.{Promote, Demote, Copy, Fence, Handover}
 use Rattle.peg_event.specs.declared.Command.TheVariants.{Clear}
-use Rattle.peg_event.specs.declared.Listing.{Listing}
+use Rattle.peg_event.specs.declared.answers.Listing.{Listing}
 use Rattle.peg_event.specs.declared.Outcome.{Outcome}
 use Rattle.peg_event.specs.declared.Outcome.TheVariants.{Activated}
-use Rattle.peg_model.specs.Controller.{belongs}
+use Rattle.peg_model.specs.Controller.{belongs, what_of}
 use Rattle.peg_model.specs.Packet as packet
 use Rattle.peg_model.specs.Packet.{What, CommandAck}
 use Rattle.peg_model.specs.Rules.{entry_of}
@@ -48,6 +49,11 @@ pub record CommandsSettle (w : World) : Type 0 where
       → Contains w.packets (node.Switch a, packet.Command number what)
       → Contains w.packets (node.Controller, CommandAck number outcome)
       → belongs number what outcome ≡ true
+  -- a command of the controller's last number is the pending one, at the controller's epoch
+  pub pending :
+      (a : ℕ) (what : What) (command : Command) → w.controller.pending ≡ Some command
+      → Contains w.packets (node.Switch a, packet.Command w.controller.last what)
+      → what ≡ what_of w.controller.epoch command
   -- the known keys are the listed ones without a mark, but for that of the pending command
   pub known :
       (key : List ℕ) → names_key w.controller.pending key ≡ false

@@ -5,7 +5,7 @@
 ghost use Rattle.std.specs.Prelude.{◌≡◌, ◌≤◌, ◌<◌, ℕ, true, is_none, List, Contains};
 ghost use Rattle.std.specs.List.{AllByRecursion};
 ghost use Rattle.peg_name.specs.Name.{Rack};
-ghost use Rattle.peg_event.specs.declared.Ask.{Ask};
+ghost use Rattle.peg_event.specs.declared.answers.Ask.{Ask};
 ghost use Rattle.peg_event.specs.declared.Command.{Command};
 ghost use Rattle.peg_event.specs.declared.Event.{Event};
 ghost use Rattle.peg_model.specs.Client.{Client, begin_operation, resend, give_up};
@@ -168,9 +168,11 @@ pub fn gives_one_command()
 }
 
 /// For those who command: what is acknowledged can belong to its command, and the controller knows
-/// exactly the listed keys without a mark, but for the one that the pending command is about. Where
-/// the current state is sealed, that handover is pending. The pending command is acknowledged as
-/// activated only where its target holds the current state.
+/// exactly the listed keys without a mark, but for the one that the pending command is about. A
+/// command of the controller's last number is the pending one, at the controller's epoch: so a
+/// pending seal has that epoch plus one. Where the current state is sealed, that handover is
+/// pending. The pending command is acknowledged as activated only where its target holds the
+/// current state.
 pub fn settles_each_command()
     ensures { (rack : Rack) (keys : List (List ℕ)) (events : List Event)
         → IsStart rack keys → AllByRecursion (IsLine rack) events

@@ -7,10 +7,10 @@ use Rattle.std.specs.Prelude.{if◌then◌else◌, IfSome, IsNone}
 use Rattle.std.specs.List.{list_any, IsDistinct, AllByRecursion, position}
 use Rattle.std.proofs.lemmas.Bool.Decides.{nat_tests}
 use Rattle.std.proofs.lemmas.List.Quantifiers.{position-Some}
-use Rattle.peg_event.specs.declared.Op.{Op}
+use Rattle.peg_event.specs.declared.history.Op.{Op}
 use Rattle.peg_model.specs.World.{Operation, is_named, changed_at, answered_as, stamped_as}
 use Rattle.peg_model.specs.World.{with_answer, AppliedFence, origin_of}
-use Rattle.peg_name.specs.declared.Content.{Content}
+use Rattle.peg_name.specs.declared.value.Content.{Content}
 use Rattle.std.specs.Prelude.{is_none, is_some}
 use Rattle.std.proofs.lemmas.List.{length-set}
 use Rattle.std.proofs.lemmas.Map.Keys.{IsDistinct-head, IsDistinct-tail}

@@ -8,10 +8,10 @@
 --     promoted_after key base promotions      one more, where the key was given a version
 use Rattle.std.specs.Prelude.{ℕ, Option, Some, None, List, [], ◌∷◌, ◌++◌}
 use Rattle.peg_name.specs.declared.Format.{Format}
-use Rattle.peg_name.specs.declared.Content.TheVariants.{Absent}
-use Rattle.peg_event.specs.declared.Op.{Op}
-use Rattle.peg_event.specs.declared.Issue.{Issue}
-use Rattle.peg_event.specs.declared.Issue.TheVariants as issue
+use Rattle.peg_name.specs.declared.value.Content.TheVariants.{Absent}
+use Rattle.peg_event.specs.declared.history.Op.{Op}
+use Rattle.peg_event.specs.declared.answers.Issue.{Issue}
+use Rattle.peg_event.specs.declared.answers.Issue.TheVariants as issue
 use Rattle.peg_event.specs.declared.ClientDid.{ClientDid}
 use Rattle.peg_event.specs.declared.ClientDid.TheVariants as client_did
 use Rattle.peg_event.specs.declared.SwitchDid.{SwitchDid}

@@ -9,9 +9,9 @@
 use Rattle.std.specs.Prelude.{ℕ, ◌≡◌, ◌<◌, Bool, true, false, ◌&&◌, ◌==◌, None, List, []}
 use Rattle.std.specs.Prelude.{◌∷◌, ◌≤◌, length}
 use Rattle.std.specs.List.{AllByRecursion, IsDistinct, list_any}
-use Rattle.peg_event.specs.declared.Op.{Op}
-use Rattle.peg_event.specs.declared.Issue.{Issue}
-use Rattle.peg_event.specs.declared.Issue.TheVariants as issue
+use Rattle.peg_event.specs.declared.history.Op.{Op}
+use Rattle.peg_event.specs.declared.answers.Issue.{Issue}
+use Rattle.peg_event.specs.declared.answers.Issue.TheVariants as issue
 use Rattle.peg_model.specs.World.{Operation, is_named}
 use Rattle.peg_ledger.specs.declared.operations.Name.{Name}
 

@@ -16,11 +16,11 @@ use Rattle.peg_name.specs.Name.{Rack, home_of}
 use Rattle.peg_name.specs.declared.Format.{Format}
 use Rattle.peg_name.specs.declared.Node.{Node}
 use Rattle.peg_name.specs.declared.Node.TheVariants as node
-use Rattle.peg_event.specs.declared.Listing.{Listing}
+use Rattle.peg_event.specs.declared.answers.Listing.{Listing}
 use Rattle.peg_event.specs.declared.SwitchDid.{SwitchDid}
 use Rattle.peg_event.specs.declared.SwitchDid.TheVariants as did
-use Rattle.peg_event.specs.declared.Stamp.{Stamp}
-use Rattle.peg_event.specs.declared.Stamp.TheVariants as stamp_did
+use Rattle.peg_event.specs.declared.answers.Stamp.{Stamp}
+use Rattle.peg_event.specs.declared.answers.Stamp.TheVariants as stamp_did
 use Rattle.peg_model.specs.Words.{last_number, below}
 use Rattle.peg_model.specs.Packet.{Packet, Read, Write}
 use Rattle.peg_model.specs.Reading.{packet_of, is_format}

@@ -5,7 +5,7 @@
 use Rattle.std.specs.Prelude.{◌≡◌, ◌≤◌, ◌<◌, ◌^◌, ◌+◌, ◌-◌, ℕ, zero, suc, ◌==◌, Option, Some, None}
 use Rattle.std.specs.Prelude.{List, [], ◌∷◌, ◌++◌, length, slice_get, if◌then◌else◌, codes, decimal}
 use Rattle.std.specs.Prelude.{false}
-use Rattle.peg_event.specs.declared.Op.{Op}
+use Rattle.peg_event.specs.declared.history.Op.{Op}
 use Rattle.peg_model.specs.Order.{keys_in}
 use Rattle.peg_model.specs.Schedule.{fed}
 use Rattle.peg_model.specs.Trace.{op_text, order_text}

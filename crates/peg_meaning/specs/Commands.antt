@@ -14,7 +14,7 @@ use Rattle.std.specs.Str.Parse.{digits_value}
 use Rattle.peg_name.specs.Name.{Rack}
 use Rattle.peg_name.specs.Limits.{is_between, config_of}
 use Rattle.peg_name.specs.declared.Format.TheVariants.{One}
-use Rattle.peg_name.specs.declared.ConfigFault.{ConfigFault}
+use Rattle.peg_name.specs.declared.config.ConfigFault.{ConfigFault}
 use Rattle.peg_name.specs.declared.Node.{Node}
 use Rattle.peg_name.specs.declared.Node.TheVariants as node
 use Rattle.peg_model.specs.Words.{last_number}

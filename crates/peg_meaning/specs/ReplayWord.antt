@@ -10,7 +10,7 @@ use Rattle.std.specs.Prelude.{if◌then◌else◌}
 use Rattle.peg_name.specs.Name.{Rack, line_most}
 use Rattle.peg_event.specs.declared.Event.{Event}
 use Rattle.peg_event.specs.declared.Line.{Line}
-use Rattle.peg_event.specs.declared.Op.{Op}
+use Rattle.peg_event.specs.declared.history.Op.{Op}
 use Rattle.peg_model.specs.World.{World, start, history, step}
 use Rattle.peg_model.specs.Order.{orders}
 use Rattle.peg_model.specs.Schedule.{IsRackLine, IsEventLine, fed}

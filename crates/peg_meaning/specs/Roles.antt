@@ -10,19 +10,19 @@
 --     Call, call, Console, controls      the controller, which makes a call for each line, and
 --         sends it until it is settled
 --     IsAskLine, IsCallLine      the lines of these two
-use Rattle.std.specs.Prelude.{◌≡◌, ◌≤◌, ◌+◌, ◌-◌, ℕ, zero, suc, Bool, true, false, not, ◌&&◌, ◌==◌}
+use Rattle.std.specs.Prelude.{◌≡◌, ◌≤◌, ◌+◌, ◌-◌, ℕ, Bool, true, false, not, ◌&&◌, ◌==◌}
 use Rattle.std.specs.Prelude.{Option, Some, None, is_none, List, [], ◌++◌, length, if◌then◌else◌}
 use Rattle.std.specs.Prelude.{codes, decimal, Contains}
 use Rattle.peg_name.specs.Name.{Rack, value_most, line_most}
 use Rattle.peg_name.specs.declared.Format.{Format}
 use Rattle.peg_name.specs.declared.Format.TheVariants.{Two}
-use Rattle.peg_name.specs.declared.Content.TheVariants.{Absent, Present}
+use Rattle.peg_name.specs.declared.value.Content.TheVariants.{Absent, Present}
 use Rattle.peg_name.specs.declared.Node.{Node}
 use Rattle.peg_name.specs.declared.Node.TheVariants as node
-use Rattle.peg_event.specs.declared.Ask.{Ask}
-use Rattle.peg_event.specs.declared.Ask.TheVariants as ask
-use Rattle.peg_event.specs.declared.Issue.{Issue}
-use Rattle.peg_event.specs.declared.Issue.TheVariants as issue
+use Rattle.peg_event.specs.declared.answers.Ask.{Ask}
+use Rattle.peg_event.specs.declared.answers.Ask.TheVariants as ask
+use Rattle.peg_event.specs.declared.answers.Issue.{Issue}
+use Rattle.peg_event.specs.declared.answers.Issue.TheVariants as issue
 use Rattle.peg_event.specs.declared.Event.{Event}
 use Rattle.peg_event.specs.declared.Event.TheVariants as event
 use Rattle.peg_event.specs.declared.Command.{Command}
@@ -47,7 +47,7 @@ use Rattle.peg_model.specs.Text.{key_word, value_word}
 use Rattle.peg_model.specs.Schedule.{event_lines, EventInRange, IsKeyOfBytes, AreBytes, fed}
 use Rattle.peg_model.specs.Trace.{client_text, said_text}
 use Rattle.peg_meaning.specs.Session.{Meaning, Input, Entry, Datagram, Quiet, Tick, Letter, Came}
-use Rattle.peg_meaning.specs.Session.{Answer, Goes, Past, quietly, saying, behind, at_port, room}
+use Rattle.peg_meaning.specs.Session.{Answer, Goes, Past, begun, quietly, saying, at_port, room}
 use Rattle.peg_meaning.specs.Session.{posted}
 use Rattle.peg_meaning.specs.declared.Want.{Want}
 use Rattle.peg_meaning.specs.declared.Want.TheVariants as want
@@ -137,9 +137,11 @@ pub data Phase : Type 0 where
   Reading : Phase
   Awaiting : (sends turns : ℕ) → Phase
 
+-- once the turns after a send are used, it goes on by a step of its own
 abbrev pub phase_want : ℕ → ℕ → Phase → Want
 phase_want limit room Reading = want.Line limit true
-phase_want limit room (Awaiting sends turns) = want.Turn 0 room
+phase_want limit room (Awaiting sends turns) =
+    if turns == 0 then want.Step else want.Turn 0 room
 
 -- ---- ask
 
@@ -191,30 +193,26 @@ ask_start base format id first tries waits =
 abbrev pub sends_of : Asker → List (Node × Packet) → List Letter
 sends_of s sent = posted 0 s.base s.client.format sent
 
-abbrev pub given_up : Option ℕ → Asker → Came Asker
-given_up None s = quietly s
-given_up (Some seq) s = saying s (fed (codes "unanswered " ++ decimal seq))
+abbrev pub unanswered_line : Option ℕ → List ℕ
+unanswered_line None = []
+unanswered_line (Some seq) = fed (codes "unanswered " ++ decimal seq)
 
 abbrev pub gives_up : Asker → Came Asker
 gives_up s =
     let step = give_up s.client in
-    given_up step.did (record s { client = step.state; phase = Reading })
-
-abbrev pub waiting : Asker → ℕ → Came Asker
-waiting s left = quietly (record s { phase = Awaiting left s.waits })
+    saying (record s { client = step.state; phase = Reading }) (unanswered_line step.did)
 
 -- once the turns after a send are used: so many further sends are left
 abbrev pub asks_again : Asker → ℕ → Came Asker
-asks_again s zero = gives_up s
-asks_again s (suc left) =
-    behind [] (sends_of s (resend s.client).sent)
-    (if s.waits == 0 then asks_again s left else waiting s left)
-
-abbrev pub awaits : Asker → ℕ → Came Asker
-awaits s left = if s.waits == 0 then asks_again s left else waiting s left
+asks_again s left =
+    let step = resend s.client in
+    if left == 0 then gives_up s
+    else begun (record s { client = step.state; phase = Awaiting (left - 1) s.waits }) []
+    (sends_of s step.sent)
 
 abbrev pub issued : Issue → Asker → List Letter → Came Asker
-issued (issue.Sent seq) s sends = behind [] sends (awaits s (s.tries - 1))
+issued (issue.Sent seq) s sends =
+    begun (record s { phase = Awaiting (s.tries - 1) s.waits }) [] sends
 issued issue.Spent s sends = saying s (fed (codes "spent"))
 -- nothing is pending when a line is read
 issued (issue.Busy seq) s sends = quietly s
@@ -223,20 +221,20 @@ abbrev pub issues : Asker → Asked → Came Asker
 issues s asked =
     let step = begin_operation s.client asked.0 asked.1 in
     let now : Asker = record s { client = step.state; lines = s.lines + 1; phase = Reading } in
-    issued step.did now (sends_of now step.sent)
+    issued step.did now (sends_of s step.sent)
 
 abbrev pub turn_used : Asker → ℕ → ℕ → Came Asker
-turn_used s left turns =
-    if turns == 1 then asks_again s left
-    else quietly (record s { phase = Awaiting left (turns - 1) })
+turn_used s left turns = quietly (record s { phase = Awaiting left (turns - 1) })
+
+abbrev pub is_answer : ClientDid → Bool
+is_answer (client_did.Wrote seq version) = true
+is_answer (client_did.Read seq version content) = true
+is_answer _ = false
 
 abbrev pub hears : ClientDid → Asker → ℕ → ℕ → Came Asker
-hears (client_did.Wrote seq version) s left turns =
-    saying (record s { phase = Reading }) (fed (client_text (client_did.Wrote seq version)))
-hears (client_did.Read seq version content) s left turns =
-    saying (record s { phase = Reading })
-    (fed (client_text (client_did.Read seq version content)))
-hears _ s left turns = turn_used s left turns
+hears did s left turns =
+    if is_answer did then saying (record s { phase = Reading }) (fed (client_text did))
+    else turn_used s left turns
 
 abbrev pub ask_datagram : List ℕ → Asker → ℕ → ℕ → Came Asker
 ask_datagram bytes s left turns =
@@ -247,6 +245,7 @@ abbrev pub ask_on : Phase → Asker → Input Asked → Answer Asker
 ask_on Reading s (Entry asked) = if s.lines == lines_most then Past else Goes (issues s asked)
 ask_on (Awaiting left turns) s (Datagram bytes) = Goes (ask_datagram bytes s left turns)
 ask_on (Awaiting left turns) s Quiet = Goes (turn_used s left turns)
+ask_on (Awaiting left turns) s Tick = Goes (asks_again s left)
 ask_on _ s _ = Past
 
 abbrev pub ask_want : Asker → Want
@@ -362,28 +361,27 @@ unanswered_text (Some command) last = codes "controller unanswered " ++ decimal 
 abbrev pub console_sends : Console → List (Node × Packet) → List Letter
 console_sends s sent = posted 0 s.base s.controller.rack.format sent
 
-abbrev pub done : Console → Came Console
-done s = quietly (record s { is_surveying = false; phase = Reading })
+-- the line is carried out
+abbrev pub done : Console → Console
+done s = record s { is_surveying = false; phase = Reading }
 
-abbrev pub unanswered : Console → Came Console
-unanswered s =
-    behind (fed (unanswered_text s.controller.pending s.controller.last)) [] (done s)
+-- so many further sends and turns are left, unless the line is settled
+abbrev pub waits_on : Console → ℕ → ℕ → Console
+waits_on s left turns = if is_settled s then done s else record s { phase = Awaiting left turns }
 
-abbrev pub console_waiting : Console → ℕ → Came Console
-console_waiting s left = quietly (record s { phase = Awaiting left s.waits })
+-- a step of the controller: its text, and what it sent
+abbrev pub reported : Console → Said → List Letter → Came Console
+reported s did sends =
+    record { state = s; text = fed (said_text did); binds = []; letters = sends }
 
 -- once the turns after a send are used: so many further sends are left
 abbrev pub calls_again : Console → ℕ → Came Console
-calls_again s zero = unanswered s
-calls_again s (suc left) =
+calls_again s left =
     let step = call s.controller (call_again s.is_surveying s.controller.pending) in
-    behind (fed (said_text step.did)) (console_sends s step.sent)
-    (if s.waits == 0 then calls_again s left else console_waiting s left)
-
-abbrev pub settles : Console → ℕ → Came Console
-settles s left =
-    if is_settled s then done s
-    else (if s.waits == 0 then calls_again s left else console_waiting s left)
+    if left == 0
+    then saying (done s) (fed (unanswered_text s.controller.pending s.controller.last))
+    else reported (record s { controller = step.state; phase = Awaiting (left - 1) s.waits })
+    step.did (console_sends s step.sent)
 
 abbrev pub calls : Console → Call → Came Console
 calls s c =
@@ -395,14 +393,8 @@ calls s c =
       is_surveying = is_survey c;
       phase = Reading;
     } in
-    behind (fed (said_text step.did)) (console_sends now step.sent)
-    (if is_refused step.did then done now else settles now (s.tries - 1))
-
-abbrev pub console_turn_used : Console → ℕ → ℕ → Came Console
-console_turn_used s left turns =
-    if is_settled s then done s
-    else (if turns == 1 then calls_again s left
-    else quietly (record s { phase = Awaiting left (turns - 1) }))
+    reported (if is_refused step.did then done now else waits_on now (s.tries - 1) s.waits)
+    step.did (console_sends s step.sent)
 
 abbrev pub control_datagram : List ℕ → Console → ℕ → ℕ → Came Console
 control_datagram bytes s left turns =
@@ -412,14 +404,15 @@ control_datagram bytes s left turns =
       controller = step.state;
       is_surveying = s.is_surveying && not (is_report step.did);
     } in
-    behind (fed (said_text (said.Controller step.did))) (console_sends now step.sent)
-    (console_turn_used now left turns)
+    reported (waits_on now left (turns - 1)) (said.Controller step.did)
+    (console_sends s step.sent)
 
 abbrev pub control_on : Phase → Console → Input Call → Answer Console
 control_on Reading s (Entry c) = if s.lines == lines_most then Past else Goes (calls s c)
 control_on (Awaiting left turns) s (Datagram bytes) =
     Goes (control_datagram bytes s left turns)
-control_on (Awaiting left turns) s Quiet = Goes (console_turn_used s left turns)
+control_on (Awaiting left turns) s Quiet = Goes (quietly (waits_on s left (turns - 1)))
+control_on (Awaiting left turns) s Tick = Goes (calls_again s left)
 control_on _ s _ = Past
 
 abbrev pub control_want : Console → Want

@@ -17,8 +17,8 @@ use Rattle.peg_name.specs.declared.Format.TheVariants.{One}
 use Rattle.peg_name.specs.declared.Node.TheVariants as node
 use Rattle.peg_event.specs.declared.Event.{Event}
 use Rattle.peg_event.specs.declared.Event.TheVariants as event
-use Rattle.peg_event.specs.declared.Verdict.{Verdict}
-use Rattle.peg_event.specs.declared.Verdict.TheVariants as verdict
+use Rattle.peg_event.specs.declared.history.Verdict.{Verdict}
+use Rattle.peg_event.specs.declared.history.Verdict.TheVariants as verdict
 use Rattle.peg_model.specs.Words.{last_number}
 use Rattle.peg_model.specs.Packet.{eight}
 use Rattle.peg_model.specs.World.{World, start, step, history}

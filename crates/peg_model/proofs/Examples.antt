@@ -5,13 +5,13 @@ use Rattle.std.specs.Fmt.{digits}
 use Rattle.std.proofs.Common.{arith}
 use Rattle.peg_name.specs.Limits.{config_of}
 use Rattle.peg_name.specs.declared.Format.TheVariants.{One, Two}
-use Rattle.peg_name.specs.declared.Content.TheVariants.{Absent, Present}
-use Rattle.peg_name.specs.declared.ConfigFault.TheVariants.{Servers}
-use Rattle.peg_event.specs.declared.Act.TheVariants as act
+use Rattle.peg_name.specs.declared.value.Content.TheVariants.{Absent, Present}
+use Rattle.peg_name.specs.declared.config.ConfigFault.TheVariants.{Servers}
+use Rattle.peg_event.specs.declared.history.Act.TheVariants as act
 use Rattle.peg_event.specs.declared.Event.TheVariants.{Read, Delete}
-use Rattle.peg_event.specs.declared.Op.{Op}
-use Rattle.peg_event.specs.declared.Fault.TheVariants as fault
-use Rattle.peg_event.specs.declared.Verdict.TheVariants as verdict
+use Rattle.peg_event.specs.declared.history.Op.{Op}
+use Rattle.peg_event.specs.declared.history.Fault.TheVariants as fault
+use Rattle.peg_event.specs.declared.history.Verdict.TheVariants as verdict
 use Rattle.peg_model.specs.Packet.{Packet, Write, ToServerWrite, WriteReply, ToServerRead}
 use Rattle.peg_model.specs.Packet.{ReadReply, in_range, spelling}
 use Rattle.peg_model.specs.Packet as packet

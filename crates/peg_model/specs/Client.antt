@@ -10,11 +10,11 @@ use Rattle.peg_name.specs.declared.Node.{Node}
 use Rattle.peg_name.specs.declared.Node.TheVariants as node
 use Rattle.peg_event.specs.declared.ClientDid.{ClientDid}
 use Rattle.peg_event.specs.declared.ClientDid.TheVariants as did
-use Rattle.peg_event.specs.declared.Issue.{Issue}
-use Rattle.peg_event.specs.declared.Issue.TheVariants as issue
-use Rattle.peg_event.specs.declared.Ask.{Ask}
-use Rattle.peg_event.specs.declared.Ask.TheVariants as ask
-use Rattle.peg_event.specs.declared.Pending.{Pending}
+use Rattle.peg_event.specs.declared.answers.Issue.{Issue}
+use Rattle.peg_event.specs.declared.answers.Issue.TheVariants as issue
+use Rattle.peg_event.specs.declared.answers.Ask.{Ask}
+use Rattle.peg_event.specs.declared.answers.Ask.TheVariants as ask
+use Rattle.peg_event.specs.declared.answers.Pending.{Pending}
 use Rattle.peg_model.specs.Words.{last_number, Step, refuse}
 use Rattle.peg_model.specs.Packet.{Packet, Read, Write, ReadReply, WriteReply, Announce}
 

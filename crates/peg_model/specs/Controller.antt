@@ -21,12 +21,12 @@ use Rattle.peg_event.specs.declared.Command.TheVariants.{Promote, Demote, Copy, 
 use Rattle.peg_event.specs.declared.Command.TheVariants.{Clear}
 use Rattle.peg_event.specs.declared.ControlDid.{ControlDid}
 use Rattle.peg_event.specs.declared.ControlDid.TheVariants as did
-use Rattle.peg_event.specs.declared.Order.{Order}
-use Rattle.peg_event.specs.declared.Order.TheVariants as order
-use Rattle.peg_event.specs.declared.Retry.{Retry}
-use Rattle.peg_event.specs.declared.Retry.TheVariants as retry
-use Rattle.peg_event.specs.declared.Plan.{Plan}
-use Rattle.peg_event.specs.declared.Plan.TheVariants as plan
+use Rattle.peg_event.specs.declared.answers.Order.{Order}
+use Rattle.peg_event.specs.declared.answers.Order.TheVariants as order
+use Rattle.peg_event.specs.declared.answers.Retry.{Retry}
+use Rattle.peg_event.specs.declared.answers.Retry.TheVariants as retry
+use Rattle.peg_event.specs.declared.answers.Plan.{Plan}
+use Rattle.peg_event.specs.declared.answers.Plan.TheVariants as plan
 use Rattle.peg_model.specs.Words.{last_number, is_in, below, sorted, Step, refuse}
 use Rattle.peg_model.specs.Packet as packet
 use Rattle.peg_model.specs.Packet.{Packet, What, CommandAck, Announce, Survey, Report}

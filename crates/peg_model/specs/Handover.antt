@@ -19,7 +19,7 @@ use Rattle.peg_model.specs.Words.{below}
 use Rattle.peg_model.specs.Packet.{two, eight, key_bytes, is_number, is_positive, is_key}
 use Rattle.peg_model.specs.Packet.{are_distinct}
 use Rattle.peg_model.specs.Reading.{one_at, two_at, eight_at, key_at, past_key}
-use Rattle.peg_event.specs.declared.Listing.{Listing}
+use Rattle.peg_event.specs.declared.answers.Listing.{Listing}
 use Rattle.peg_model.specs.Rules.{Stamps, Directory}
 
 pub record State : Type 0 where

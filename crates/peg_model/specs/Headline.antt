@@ -5,11 +5,11 @@
 use Rattle.std.specs.Prelude.{◌≡◌, ◌-◌, ℕ, List, ◌++◌, map, flat_map, slice_get, IfSome, IsSomeAnd}
 use Rattle.std.specs.Prelude.{codes, decimal}
 use Rattle.std.specs.List.{AllByRecursion}
-use Rattle.peg_name.specs.declared.Content.{Content}
-use Rattle.peg_name.specs.declared.Content.TheVariants.{Absent, Present}
-use Rattle.peg_event.specs.declared.Act.{Act}
-use Rattle.peg_event.specs.declared.Act.TheVariants as act
-use Rattle.peg_event.specs.declared.Op.{Op}
+use Rattle.peg_name.specs.declared.value.Content.{Content}
+use Rattle.peg_name.specs.declared.value.Content.TheVariants.{Absent, Present}
+use Rattle.peg_event.specs.declared.history.Act.{Act}
+use Rattle.peg_event.specs.declared.history.Act.TheVariants as act
+use Rattle.peg_event.specs.declared.history.Op.{Op}
 use Rattle.peg_model.specs.Register.{IsRegisterHistory}
 use Rattle.peg_model.specs.World.{World, history}
 use Rattle.peg_model.specs.Order.{keys_in, orders}

@@ -10,15 +10,15 @@ use Rattle.std.specs.Prelude.{[], ◌∷◌, ◌++◌, length, map, flat_map, sl
 use Rattle.std.specs.Prelude.{codes, decimal}
 use Rattle.std.specs.List.{AllByRecursion, list_any}
 use Rattle.std.specs.Str.{bytes_eq}
-use Rattle.peg_name.specs.declared.Content.{Content}
-use Rattle.peg_name.specs.declared.Content.TheVariants.{Absent, Present}
-use Rattle.peg_event.specs.declared.Act.{Act}
-use Rattle.peg_event.specs.declared.Act.TheVariants as act
-use Rattle.peg_event.specs.declared.Op.{Op}
-use Rattle.peg_event.specs.declared.Fault.{Fault}
-use Rattle.peg_event.specs.declared.Fault.TheVariants as fault
-use Rattle.peg_event.specs.declared.Verdict.{Verdict}
-use Rattle.peg_event.specs.declared.Verdict.TheVariants as verdict
+use Rattle.peg_name.specs.declared.value.Content.{Content}
+use Rattle.peg_name.specs.declared.value.Content.TheVariants.{Absent, Present}
+use Rattle.peg_event.specs.declared.history.Act.{Act}
+use Rattle.peg_event.specs.declared.history.Act.TheVariants as act
+use Rattle.peg_event.specs.declared.history.Op.{Op}
+use Rattle.peg_event.specs.declared.history.Fault.{Fault}
+use Rattle.peg_event.specs.declared.history.Fault.TheVariants as fault
+use Rattle.peg_event.specs.declared.history.Verdict.{Verdict}
+use Rattle.peg_event.specs.declared.history.Verdict.TheVariants as verdict
 use Rattle.peg_model.specs.World.{is_write}
 use Rattle.peg_model.specs.Register.{content_after}
 use Rattle.peg_model.specs.Order.{keys_in}

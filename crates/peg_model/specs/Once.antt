@@ -5,7 +5,7 @@
 --         after a void of the one before
 use Rattle.std.specs.Prelude.{◌≡◌, ◌≢◌, ◌<◌, ℕ, Option, Some, None, List, filter_map, slice_get}
 use Rattle.std.specs.Prelude.{IsSomeAnd, Contains}
-use Rattle.peg_name.specs.declared.Content.{Content}
+use Rattle.peg_name.specs.declared.value.Content.{Content}
 use Rattle.peg_name.specs.declared.Node.{Node}
 use Rattle.peg_model.specs.Packet.{Packet, ToServerWrite, ReadReply, WriteReply, CopyData, Held}
 use Rattle.peg_model.specs.Packet.{Void}

@@ -7,7 +7,7 @@ use Rattle.std.specs.Prelude.{◌+◌, ℕ, Bool, not, ◌&&◌, ◌||◌, ◌==
 use Rattle.std.specs.Prelude.{◌++◌, map, filter, if◌then◌else◌, unwrap_or}
 use Rattle.std.specs.List.{list_any}
 use Rattle.std.specs.Str.{bytes_eq}
-use Rattle.peg_event.specs.declared.Op.{Op}
+use Rattle.peg_event.specs.declared.history.Op.{Op}
 use Rattle.peg_model.specs.Words.{last_number, sorted, is_in}
 use Rattle.peg_model.specs.World.{World, is_write}
 

@@ -9,11 +9,11 @@
 use Rattle.std.specs.Prelude.{◌≡◌, ◌≢◌, ◌≤◌, ◌⊎◌, ℕ, List, [], ◌∷◌, IfSome, IsSome, IsSomeAnd}
 use Rattle.std.specs.Prelude.{AllPairs, Contains, slice_get, filter_map}
 use Rattle.std.specs.List.{AllByRecursion}
-use Rattle.peg_name.specs.declared.Content.{Content}
-use Rattle.peg_name.specs.declared.Content.TheVariants.{Absent}
-use Rattle.peg_event.specs.declared.Act.{Act}
-use Rattle.peg_event.specs.declared.Act.TheVariants.{Read, Write}
-use Rattle.peg_event.specs.declared.Op.{Op}
+use Rattle.peg_name.specs.declared.value.Content.{Content}
+use Rattle.peg_name.specs.declared.value.Content.TheVariants.{Absent}
+use Rattle.peg_event.specs.declared.history.Act.{Act}
+use Rattle.peg_event.specs.declared.history.Act.TheVariants.{Read, Write}
+use Rattle.peg_event.specs.declared.history.Op.{Op}
 
 -- what the register has after an operation
 abbrev pub content_after : Content → Act → Content → Content

@@ -21,19 +21,19 @@ use Rattle.peg_name.specs.Name.{Rack, home_of}
 use Rattle.peg_name.specs.Holders.{with_holder}
 use Rattle.peg_name.specs.declared.Note.{Note}
 use Rattle.peg_name.specs.declared.Note.TheVariants.{Unlisted, Kept, Raised, Added, Removed}
-use Rattle.peg_event.specs.declared.Listing.{Listing}
-use Rattle.peg_event.specs.declared.Stamp.{Stamp}
-use Rattle.peg_event.specs.declared.Stamp.TheVariants.{New, Same, Stale, Exhausted}
-use Rattle.peg_event.specs.declared.Forward.{Forward}
-use Rattle.peg_event.specs.declared.Forward.TheVariants as forward
-use Rattle.peg_event.specs.declared.Promoted.{Promoted}
-use Rattle.peg_event.specs.declared.Promoted.TheVariants as promoted
-use Rattle.peg_event.specs.declared.MarkDid.{MarkDid}
-use Rattle.peg_event.specs.declared.MarkDid.TheVariants as mark_did
-use Rattle.peg_event.specs.declared.CopyFrom.{CopyFrom}
-use Rattle.peg_event.specs.declared.CopyFrom.TheVariants as copy_from
-use Rattle.peg_event.specs.declared.FenceOf.{FenceOf}
-use Rattle.peg_event.specs.declared.FenceOf.TheVariants as fence_at
+use Rattle.peg_event.specs.declared.answers.Listing.{Listing}
+use Rattle.peg_event.specs.declared.answers.Stamp.{Stamp}
+use Rattle.peg_event.specs.declared.answers.Stamp.TheVariants.{New, Same, Stale, Exhausted}
+use Rattle.peg_event.specs.declared.answers.Forward.{Forward}
+use Rattle.peg_event.specs.declared.answers.Forward.TheVariants as forward
+use Rattle.peg_event.specs.declared.answers.Promoted.{Promoted}
+use Rattle.peg_event.specs.declared.answers.Promoted.TheVariants as promoted
+use Rattle.peg_event.specs.declared.answers.MarkDid.{MarkDid}
+use Rattle.peg_event.specs.declared.answers.MarkDid.TheVariants as mark_did
+use Rattle.peg_event.specs.declared.answers.CopyFrom.{CopyFrom}
+use Rattle.peg_event.specs.declared.answers.CopyFrom.TheVariants as copy_from
+use Rattle.peg_event.specs.declared.answers.FenceOf.{FenceOf}
+use Rattle.peg_event.specs.declared.answers.FenceOf.TheVariants as fence_at
 use Rattle.peg_model.specs.Words.{last_number}
 
 -- ---- stamps

@@ -13,19 +13,19 @@ use Rattle.std.specs.Prelude.{if◌then◌else◌, unwrap_or}
 use Rattle.std.specs.Map.{lookup}
 use Rattle.std.specs.BTreeMap.{insert_entry, is_at}
 use Rattle.peg_name.specs.Name.{Rack, key_cmp, home_of}
-use Rattle.peg_name.specs.declared.Content.{Content}
-use Rattle.peg_name.specs.declared.Content.TheVariants.{Absent}
+use Rattle.peg_name.specs.declared.value.Content.{Content}
+use Rattle.peg_name.specs.declared.value.Content.TheVariants.{Absent}
 use Rattle.peg_name.specs.declared.Node.{Node}
 use Rattle.peg_name.specs.declared.Node.TheVariants as node
 use Rattle.peg_event.specs.declared.ServerDid.{ServerDid}
 use Rattle.peg_event.specs.declared.ServerDid.TheVariants as did
-use Rattle.peg_event.specs.declared.Stored.{Stored}
-use Rattle.peg_event.specs.declared.Apply.{Apply}
-use Rattle.peg_event.specs.declared.Apply.TheVariants as apply
-use Rattle.peg_event.specs.declared.WriteDid.{WriteDid}
-use Rattle.peg_event.specs.declared.WriteDid.TheVariants as write_did
-use Rattle.peg_event.specs.declared.FenceDid.{FenceDid}
-use Rattle.peg_event.specs.declared.FenceDid.TheVariants as fence_did
+use Rattle.peg_event.specs.declared.answers.Stored.{Stored}
+use Rattle.peg_event.specs.declared.answers.Apply.{Apply}
+use Rattle.peg_event.specs.declared.answers.Apply.TheVariants as apply
+use Rattle.peg_event.specs.declared.answers.WriteDid.{WriteDid}
+use Rattle.peg_event.specs.declared.answers.WriteDid.TheVariants as write_did
+use Rattle.peg_event.specs.declared.answers.FenceDid.{FenceDid}
+use Rattle.peg_event.specs.declared.answers.FenceDid.TheVariants as fence_did
 use Rattle.peg_model.specs.Words.{Step, refuse}
 use Rattle.peg_model.specs.Packet.{Packet, ToServerRead, ToServerWrite, ReadReply, WriteReply}
 use Rattle.peg_model.specs.Packet.{CopyOrder, CopyData, Held, Fence, Void}

@@ -8,23 +8,23 @@ use Rattle.std.specs.Prelude.{◌+◌, ◌-◌, ℕ, Bool, true, false, not, ◌
 use Rattle.std.specs.Prelude.{nat_le, Option, Some, None, List, [], ◌∷◌, ◌++◌, length, map}
 use Rattle.std.specs.Prelude.{replicate, slice_index_or, if◌then◌else◌}
 use Rattle.peg_name.specs.Name.{Rack, home_of}
-use Rattle.peg_name.specs.declared.Content.{Content}
+use Rattle.peg_name.specs.declared.value.Content.{Content}
 use Rattle.peg_name.specs.declared.Node.{Node}
 use Rattle.peg_name.specs.declared.Node.TheVariants as node
 use Rattle.peg_event.specs.declared.Outcome.{Outcome}
 use Rattle.peg_event.specs.declared.Outcome.TheVariants as outcome
 use Rattle.peg_event.specs.declared.SwitchDid.{SwitchDid}
 use Rattle.peg_event.specs.declared.SwitchDid.TheVariants as did
-use Rattle.peg_event.specs.declared.Forward.{Forward}
-use Rattle.peg_event.specs.declared.Forward.TheVariants as forward
-use Rattle.peg_event.specs.declared.Promoted.{Promoted}
-use Rattle.peg_event.specs.declared.Promoted.TheVariants as promoted
-use Rattle.peg_event.specs.declared.MarkDid.{MarkDid}
-use Rattle.peg_event.specs.declared.MarkDid.TheVariants as mark_did
-use Rattle.peg_event.specs.declared.CopyFrom.{CopyFrom}
-use Rattle.peg_event.specs.declared.CopyFrom.TheVariants as copy_from
-use Rattle.peg_event.specs.declared.FenceOf.{FenceOf}
-use Rattle.peg_event.specs.declared.FenceOf.TheVariants as fence_at
+use Rattle.peg_event.specs.declared.answers.Forward.{Forward}
+use Rattle.peg_event.specs.declared.answers.Forward.TheVariants as forward
+use Rattle.peg_event.specs.declared.answers.Promoted.{Promoted}
+use Rattle.peg_event.specs.declared.answers.Promoted.TheVariants as promoted
+use Rattle.peg_event.specs.declared.answers.MarkDid.{MarkDid}
+use Rattle.peg_event.specs.declared.answers.MarkDid.TheVariants as mark_did
+use Rattle.peg_event.specs.declared.answers.CopyFrom.{CopyFrom}
+use Rattle.peg_event.specs.declared.answers.CopyFrom.TheVariants as copy_from
+use Rattle.peg_event.specs.declared.answers.FenceOf.{FenceOf}
+use Rattle.peg_event.specs.declared.answers.FenceOf.TheVariants as fence_at
 use Rattle.peg_model.specs.Words.{Step, refuse, below}
 use Rattle.peg_model.specs.Packet.{What, Promote, Demote, Copy, Seal, Clear, FenceKey, Packet}
 use Rattle.peg_model.specs.Packet.{Read, Write, ToServerRead, ToServerWrite, ReadReply, WriteReply}

@@ -13,13 +13,13 @@ use Rattle.std.specs.Prelude.{slice_set, if◌then◌else◌}
 use Rattle.std.specs.Str.{bytes_eq}
 use Rattle.peg_name.specs.Name.{Rack}
 use Rattle.peg_name.specs.declared.Format.{Format}
-use Rattle.peg_name.specs.declared.Content.{Content}
-use Rattle.peg_name.specs.declared.Content.TheVariants.{Absent, Present}
+use Rattle.peg_name.specs.declared.value.Content.{Content}
+use Rattle.peg_name.specs.declared.value.Content.TheVariants.{Absent, Present}
 use Rattle.peg_name.specs.declared.Node.{Node}
 use Rattle.peg_name.specs.declared.Node.TheVariants as node
-use Rattle.peg_event.specs.declared.Act.{Act}
-use Rattle.peg_event.specs.declared.Act.TheVariants as act
-use Rattle.peg_event.specs.declared.Op.{Op}
+use Rattle.peg_event.specs.declared.history.Act.{Act}
+use Rattle.peg_event.specs.declared.history.Act.TheVariants as act
+use Rattle.peg_event.specs.declared.history.Op.{Op}
 use Rattle.peg_event.specs.declared.Event.{Event}
 use Rattle.peg_event.specs.declared.Event.TheVariants as event
 use Rattle.peg_event.specs.declared.Command.{Command}
@@ -35,16 +35,16 @@ use Rattle.peg_event.specs.declared.ServerDid.TheVariants as server_did
 use Rattle.peg_event.specs.declared.ClientDid.{ClientDid}
 use Rattle.peg_event.specs.declared.ClientDid.TheVariants as client_did
 use Rattle.peg_event.specs.declared.ControlDid.TheVariants as control_did
-use Rattle.peg_event.specs.declared.Ask.{Ask}
-use Rattle.peg_event.specs.declared.Ask.TheVariants as ask
-use Rattle.peg_event.specs.declared.Issue.{Issue}
-use Rattle.peg_event.specs.declared.Issue.TheVariants as issue
-use Rattle.peg_event.specs.declared.Order.{Order}
-use Rattle.peg_event.specs.declared.Order.TheVariants as order
-use Rattle.peg_event.specs.declared.Retry.{Retry}
-use Rattle.peg_event.specs.declared.Retry.TheVariants as retry
-use Rattle.peg_event.specs.declared.Plan.{Plan}
-use Rattle.peg_event.specs.declared.Plan.TheVariants as plan
+use Rattle.peg_event.specs.declared.answers.Ask.{Ask}
+use Rattle.peg_event.specs.declared.answers.Ask.TheVariants as ask
+use Rattle.peg_event.specs.declared.answers.Issue.{Issue}
+use Rattle.peg_event.specs.declared.answers.Issue.TheVariants as issue
+use Rattle.peg_event.specs.declared.answers.Order.{Order}
+use Rattle.peg_event.specs.declared.answers.Order.TheVariants as order
+use Rattle.peg_event.specs.declared.answers.Retry.{Retry}
+use Rattle.peg_event.specs.declared.answers.Retry.TheVariants as retry
+use Rattle.peg_event.specs.declared.answers.Plan.{Plan}
+use Rattle.peg_event.specs.declared.answers.Plan.TheVariants as plan
 use Rattle.peg_model.specs.Words.{Step, below}
 use Rattle.peg_model.specs.Packet as packet
 use Rattle.peg_model.specs.Packet.{Packet}

@@ -8,8 +8,8 @@ use Rattle.std.specs.Prelude.{◌==◌, if◌then◌else◌}
 use Rattle.peg_name.specs.Name.{Rack, servers_most, clients_most}
 use Rattle.peg_name.specs.declared.Format.{Format}
 use Rattle.peg_name.specs.declared.Format.TheVariants.{One, Two}
-use Rattle.peg_name.specs.declared.ConfigFault.{ConfigFault}
-use Rattle.peg_name.specs.declared.ConfigFault.TheVariants as fault
+use Rattle.peg_name.specs.declared.config.ConfigFault.{ConfigFault}
+use Rattle.peg_name.specs.declared.config.ConfigFault.TheVariants as fault
 
 abbrev pub is_between : ℕ → ℕ → ℕ → Bool
 is_between low high n = nat_le low n && nat_le n high

@@ -1,3 +1,9 @@
 pub mod Outboxes
 pub mod Served
 pub mod Turns
+pub mod AskLines
+pub mod Clients
+pub mod AskSteps
+pub mod ControlSteps
+pub mod CallLines
+pub mod ClientTexts

@@ -1,7 +1,17 @@
 //! The words that run one node over a wire, as sessions.
 #![tactic(auto)]
 
+mod asked;
+mod asker;
+mod asking;
+mod calls;
+mod client;
+mod console;
+mod controller;
+mod controlling;
 mod outbox;
+mod phase;
+mod printing;
 mod server;
 mod serving;
 mod switch;
@@ -9,5 +19,7 @@ mod switch;
 mod tests;
 mod turning;
 
+pub use client::ask;
+pub use controller::serve_controller;
 pub use server::serve_server;
 pub use switch::serve_switch;

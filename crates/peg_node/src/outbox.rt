@@ -8,7 +8,7 @@ ghost use Rattle.peg_session.specs.Pages.{Passes};
 ghost use Rattle.peg_meaning.specs.Roles as roles;
 
 use peg_io::Sink;
-use peg_name::{Config, Format, Node};
+use peg_name::{Config, Format, Node, SwitchId};
 use peg_session::Page;
 use peg_text::{Text, datagrams_text};
 
@@ -20,10 +20,17 @@ pub(crate) fn port(base: u16, config: &Config, node: Node) -> u16
 {
     match node {
         Node::Controller => base,
-        Node::Switch(id) => base + 1 + u16::from(id.0),
+        Node::Switch(id) => switch_port(base, id),
         Node::Server(id) => base + 8 + u16::from(id.0),
         Node::Client(id) => client_port(base, config.clients(), id.0),
     }
+}
+
+pub(crate) fn switch_port(base: u16, id: SwitchId) -> u16
+    requires low { base ≤ 60000 }
+    ensures { result ≡ base + 1 + id }
+{
+    base + 1 + u16::from(id.0)
 }
 
 fn client_port(base: u16, clients: u64, id: u16) -> u16

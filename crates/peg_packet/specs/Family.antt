@@ -1,22 +1,29 @@
 -- Which packets are alike.
---     family_of packet      0 for requests, 1 for replies and voids, 2 for copies and fences, and 3
---         for what is of no key
-use Rattle.std.specs.Prelude.{ℕ}
+--     is_request packet      whether it asks for a read or a write
+--     is_reply packet      whether it answers one, or says that it is void
+--     is_copy packet      whether it is of a copy or of a fence
+use Rattle.std.specs.Prelude.{Bool, true, false}
 use Rattle.peg_packet.specs.declared.Packet.{Packet}
 use Rattle.peg_packet.specs.declared.Packet.TheVariants.{Read, Write, ToServerRead}
 use Rattle.peg_packet.specs.declared.Packet.TheVariants.{ToServerWrite, ReadReply, WriteReply}
 use Rattle.peg_packet.specs.declared.Packet.TheVariants.{Void, CopyOrder, CopyData, Held, Fence}
 
-abbrev pub family_of : Packet → ℕ
-family_of (Read client seq key) = 0
-family_of (Write client seq key content) = 0
-family_of (ToServerRead header key) = 0
-family_of (ToServerWrite header version key content) = 0
-family_of (ReadReply header version key content) = 1
-family_of (WriteReply header version key) = 1
-family_of (Void header version key) = 1
-family_of (CopyOrder switch server target key) = 2
-family_of (CopyData switch server version key content) = 2
-family_of (Held server version key) = 2
-family_of (Fence switch server version key) = 2
-family_of _ = 3
+abbrev pub is_request : Packet → Bool
+is_request (Read client seq key) = true
+is_request (Write client seq key content) = true
+is_request (ToServerRead header key) = true
+is_request (ToServerWrite header version key content) = true
+is_request _ = false
+
+abbrev pub is_reply : Packet → Bool
+is_reply (ReadReply header version key content) = true
+is_reply (WriteReply header version key) = true
+is_reply (Void header version key) = true
+is_reply _ = false
+
+abbrev pub is_copy : Packet → Bool
+is_copy (CopyOrder switch server target key) = true
+is_copy (CopyData switch server version key content) = true
+is_copy (Held server version key) = true
+is_copy (Fence switch server version key) = true
+is_copy _ = false

@@ -4,8 +4,8 @@ use Rattle.std.specs.Prelude.{ℕ, List, ◌∷◌, Option, Some, None, if◌the
 use Rattle.std.specs.Str.{bytes_eq}
 use Rattle.std.specs.Borrow.{Bor}
 use Rattle.peg_name.specs.declared.Row.{Row}
-use Rattle.peg_name.specs.declared.Content.{Content}
-use Rattle.peg_name.specs.declared.Content.TheVariants.{Absent, Present}
+use Rattle.peg_name.specs.declared.value.Content.{Content}
+use Rattle.peg_name.specs.declared.value.Content.TheVariants.{Absent, Present}
 use Rattle.peg_event.specs.declared.Outcome.{Outcome}
 use Rattle.peg_event.specs.declared.Outcome.TheVariants as outcome
 use Rattle.peg_grammar.specs.Rows.{rows_in}

@@ -7,7 +7,7 @@ use Rattle.std.specs.Prelude.{◌≡◌, ◌≤◌, ◌<◌, ◌+◌, ℕ, true,
 use Rattle.std.specs.Prelude.{Option, Some, MatchOption, option_and_then}
 use Rattle.std.specs.Borrow.{Bor}
 use Rattle.peg_name.specs.declared.Format.{Format}
-use Rattle.peg_name.specs.declared.Content.{Content}
+use Rattle.peg_name.specs.declared.value.Content.{Content}
 use Rattle.peg_packet.specs.declared.Packet.{Packet}
 use Rattle.peg_packet.specs.declared.What.{What}
 use Rattle.peg_packet.specs.declared.Header.{Header}

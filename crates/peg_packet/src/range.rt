@@ -1,12 +1,12 @@
 //! Whether the numbers and the lengths of a packet are those that a packet of its format may have.
 
-ghost use Rattle.std.specs.Prelude.{◌≡◌, ◌≤◌, ◌&&◌, nat_lt, nat_le};
+ghost use Rattle.std.specs.Prelude.{◌≡◌, ◌≤◌, ◌&&◌, nat_lt, nat_le, false};
 ghost use Rattle.peg_model.specs.Packet.{is_client, is_positive, is_number, is_server, is_switch};
 ghost use Rattle.peg_model.specs.Packet.{is_key, is_value, is_content, is_written};
 ghost use Rattle.peg_model.specs.Packet.{is_read_content, what_in_range, outcome_in_range};
 ghost use Rattle.peg_model.specs.Packet.{part_in_range, family_in_range, in_range};
 ghost use Rattle.peg_packet.specs.Seen.{seen, what_seen, content_seen, outcome_seen};
-ghost use Rattle.peg_packet.specs.Family.{family_of};
+ghost use Rattle.peg_packet.specs.Family.{is_request, is_reply, is_copy};
 
 use crate::outcomes::outcome_of;
 use crate::report::is_report;
@@ -303,14 +303,14 @@ pub fn is_in_range(format: Format, packet: &Packet<'_>) -> bool
             key,
             content,
         } => is_versioned_write(format, header, *version, key, *content),
-        _ => is_reply(format, packet),
+        _ => reply_in_range(format, packet),
     }
 }
 
 /// The same of a packet that is no request.
 #[tactic(auto, unfolding(peg_model::specs::Packet::in_range))]
-fn is_reply(format: Format, packet: &Packet<'_>) -> bool
-    requires { 1 ≤ family_of packet.now }
+fn reply_in_range(format: Format, packet: &Packet<'_>) -> bool
+    requires no_request { is_request packet.now ≡ false }
     ensures { result ≡ in_range format (seen packet.now) }
 {
     match packet {
@@ -330,14 +330,15 @@ fn is_reply(format: Format, packet: &Packet<'_>) -> bool
             version,
             key,
         } => is_versioned(format, header, *version, key),
-        _ => is_copy(format, packet),
+        _ => copy_in_range(format, packet),
     }
 }
 
 /// The same of a packet that is neither a request nor a reply.
 #[tactic(auto, unfolding(peg_model::specs::Packet::in_range))]
-fn is_copy(format: Format, packet: &Packet<'_>) -> bool
-    requires { 2 ≤ family_of packet.now }
+fn copy_in_range(format: Format, packet: &Packet<'_>) -> bool
+    requires no_request { is_request packet.now ≡ false }
+    requires no_reply { is_reply packet.now ≡ false }
     ensures { result ≡ in_range format (seen packet.now) }
 {
     match packet {
@@ -365,14 +366,16 @@ fn is_copy(format: Format, packet: &Packet<'_>) -> bool
             version,
             key,
         } => is_placed(format, *switch, *server, *version, key),
-        _ => is_other(format, packet),
+        _ => other_in_range(format, packet),
     }
 }
 
 /// The same of a packet of no key.
 #[tactic(auto, unfolding(peg_model::specs::Packet::in_range))]
-fn is_other(format: Format, packet: &Packet<'_>) -> bool
-    requires { 3 ≤ family_of packet.now }
+fn other_in_range(format: Format, packet: &Packet<'_>) -> bool
+    requires no_request { is_request packet.now ≡ false }
+    requires no_reply { is_reply packet.now ≡ false }
+    requires no_copy { is_copy packet.now ≡ false }
     ensures { result ≡ in_range format (seen packet.now) }
 {
     match packet {

@@ -1,6 +1,6 @@
 //! How a packet is spelled.
 
-ghost use Rattle.std.specs.Prelude.{◌≡◌, ◌≤◌, ◌++◌, ◌∷◌, [], length, take, true, Some};
+ghost use Rattle.std.specs.Prelude.{◌≡◌, ◌≤◌, ◌++◌, ◌∷◌, [], length, take, true, false, Some};
 ghost use Rattle.std.specs.List.{flat_map};
 ghost use Rattle.peg_name.specs.Name.{packet_most};
 ghost use Rattle.peg_model.specs.Packet.{begin, eight, two, key_bytes, content_bytes, family};
@@ -9,7 +9,7 @@ ghost use Rattle.peg_model.specs.Packet.{Command, CommandAck, CopyOrder, CopyDat
 ghost use Rattle.peg_model.specs.Packet.{Announce, Report, Fence};
 ghost use Rattle.peg_model.specs.Reading.{packet_of};
 ghost use Rattle.peg_packet.specs.Puts.{Puts};
-ghost use Rattle.peg_packet.specs.Family.{family_of};
+ghost use Rattle.peg_packet.specs.Family.{is_request, is_reply, is_copy};
 ghost use Rattle.peg_grammar.specs.Fits.{FitsKey, FitsContent, FitsWhat};
 ghost use Rattle.peg_packet.specs.Seen.{seen, content_seen, what_seen, outcome_seen, rows_seen};
 
@@ -213,7 +213,7 @@ fn put(out: &mut [u8; MOST], format: Format, packet: &Packet<'_>) -> usize
 
 /// A packet that is no request.
 fn put_reply(out: &mut [u8; MOST], format: Format, packet: &Packet<'_>) -> usize
-    requires family { 1 ≤ family_of packet.now }
+    requires no_request { is_request packet.now ≡ false }
     requires in_range { in_range format (seen packet.now) ≡ true }
     ensures { Puts out.old out.new 0 result (spelling format (seen packet.now)) }
 {
@@ -248,7 +248,8 @@ fn put_reply(out: &mut [u8; MOST], format: Format, packet: &Packet<'_>) -> usize
 
 /// A packet that is neither a request nor a reply.
 fn put_copy(out: &mut [u8; MOST], format: Format, packet: &Packet<'_>) -> usize
-    requires family { 2 ≤ family_of packet.now }
+    requires no_request { is_request packet.now ≡ false }
+    requires no_reply { is_reply packet.now ≡ false }
     requires in_range { in_range format (seen packet.now) ≡ true }
     ensures { Puts out.old out.new 0 result (spelling format (seen packet.now)) }
 {
@@ -294,7 +295,9 @@ fn put_copy(out: &mut [u8; MOST], format: Format, packet: &Packet<'_>) -> usize
 
 /// A packet of no key.
 fn put_other(out: &mut [u8; MOST], format: Format, packet: &Packet<'_>) -> usize
-    requires family { 3 ≤ family_of packet.now }
+    requires no_request { is_request packet.now ≡ false }
+    requires no_reply { is_reply packet.now ≡ false }
+    requires no_copy { is_copy packet.now ≡ false }
     requires in_range { in_range format (seen packet.now) ≡ true }
     ensures { Puts out.old out.new 0 result (spelling format (seen packet.now)) }
 {

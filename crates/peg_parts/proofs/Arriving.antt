@@ -25,8 +25,8 @@ use Rattle.peg_parts.proofs.Coming.{only, snoc, taken_has, taken_only}
 
 -- ---- what has come, and what it does
 
-module _ (rack : Rack) (own epoch : ℕ) (sealed : List ℕ) (s : State) (c : Collected)
-    (h : IsHandedOver rack own epoch sealed s c)
+module _ (rack : Rack) (epoch : ℕ) (sealed : List ℕ) (s : State) (c : Collected)
+    (h : IsHandedOver rack epoch sealed s c)
   where
     abbrev count : ℕ
     count = length (parts sealed)
@@ -95,9 +95,9 @@ module _ (rack : Rack) (own epoch : ℕ) (sealed : List ℕ) (s : State) (c : Co
     -- ---- a part of an earlier epoch
 
     takes_earlier :
-        (d : Collected) (other index many : ℕ) (bytes : List ℕ) → d.epoch ≡ epoch → other < epoch
+        (own : ℕ) (d : Collected) (other index many : ℕ) (bytes : List ℕ) → d.epoch ≡ epoch → other < epoch
         → take_part rack own d other index many bytes ≡ leaves Old d
-    takes_earlier d other index many bytes same below =
+    takes_earlier own d other index many bytes same below =
         elim (cases_lt own other) [
           | inl past ↦ takes_below rack own d other index many bytes past (omega (arith, same, below))
           | inr past ↦ takes_past rack own d other index many bytes past
@@ -105,45 +105,45 @@ module _ (rack : Rack) (own epoch : ℕ) (sealed : List ℕ) (s : State) (c : Co
 
     -- ---- a part of the state
 
-    abbrev sent : Collected → ℕ → Take
-    sent d index = take_part rack own d epoch index count (part_of sealed index)
+    abbrev sent : ℕ → Collected → ℕ → Take
+    sent own d index = take_part rack own d epoch index count (part_of sealed index)
 
     sent_again :
-        (first : ℕ) (order : List ℕ) (index : ℕ) → index < count → Contains (first ∷ order) index
-        → sent (after first order) index ≡ leaves Repeated (after first order)
-    sent_again first order index within come =
+        (own : ℕ) → own < epoch → (first : ℕ) (order : List ℕ) (index : ℕ) → index < count → Contains (first ∷ order) index
+        → sent own (after first order) index ≡ leaves Repeated (after first order)
+    sent_again own below first order index within come =
         let d : Collected = after first order in
         let same = begun_same d epoch count (omega (arith, after_is first order)) in
-        takes_again rack own d epoch index count (part_of sealed index) h.after_own
+        takes_again rack own d epoch index count (part_of sealed index) below
         (omega (arith, after_is first order))
         (ap (λ (k : Collected). length k.parts) same ∙ (holds first order).places)
         (ap (λ k. has_part k index) same ∙ has_come first order index within come)
 
     -- that part is new, and these are the parts with it
     sent_new :
-        (seen : List ℕ) (index : ℕ) → index < count → (Contains seen index → ⊥)
-        → sent (after_parts epoch sealed c seen) index
+        (own : ℕ) → own < epoch → (seen : List ℕ) (index : ℕ) → index < count → (Contains seen index → ⊥)
+        → sent own (after_parts epoch sealed c seen) index
         ≡ adds rack (after_parts epoch sealed c seen)
         (after_parts epoch sealed c (seen ++ index ∷ []))
-    sent_new [] index within new =
+    sent_new own below [] index within new =
         let anew = begun_anew c epoch count h.after_collected in
         let free : has_part (begun c epoch count) index ≡ false =
         ap (λ k. has_part k index) anew ∙ fresh_free count index
         in
-        takes_added rack own c epoch index count (part_of sealed index) h.after_own
+        takes_added rack own c epoch index count (part_of sealed index) below
         (omega (arith, h.after_collected))
         (ap (λ (k : Collected). length k.parts) anew ∙ length-replicate count None) free
         ∙ ap (adds rack c)
         (sym (cond-false (has_part (begun c epoch count) index) c
         (with_part (begun c epoch count) index (part_of sealed index)) free))
-    sent_new (first ∷ order) index within new =
+    sent_new own below (first ∷ order) index within new =
         let d : Collected = after first order in
         let same = begun_same d epoch count (omega (arith, after_is first order)) in
         let free : has_part (begun d epoch count) index ≡ false =
         false_from_ne_true (has_part (begun d epoch count) index)
         (λ has. new (has_only first order index (sym (ap (λ k. has_part k index) same) ∙ has)))
         in
-        takes_added rack own d epoch index count (part_of sealed index) h.after_own
+        takes_added rack own d epoch index count (part_of sealed index) below
         (omega (arith, after_is first order))
         (ap (λ (k : Collected). length k.parts) same ∙ (holds first order).places) free
         ∙ ap (adds rack d)
@@ -160,31 +160,31 @@ module _ (rack : Rack) (own epoch : ℕ) (sealed : List ℕ) (s : State) (c : Co
         whole_when_all epoch sealed c first (order ++ index ∷ []) h.after_collected
 
     sent_more :
-        (seen : List ℕ) (index i : ℕ) → index < count → (Contains seen index → ⊥) → i < count
+        (own : ℕ) → own < epoch → (seen : List ℕ) (index i : ℕ) → index < count → (Contains seen index → ⊥) → i < count
         → (Contains (seen ++ index ∷ []) i → ⊥)
-        → sent (after_parts epoch sealed c seen) index
+        → sent own (after_parts epoch sealed c seen) index
         ≡ leaves (More (held_count (after_parts epoch sealed c (seen ++ index ∷ []))))
         (after_parts epoch sealed c (seen ++ index ∷ []))
-    sent_more seen index i within new inside missing =
+    sent_more own below seen index i within new inside missing =
         let now : Collected = after_parts epoch sealed c (seen ++ index ∷ []) in
         let d : Collected = after_parts epoch sealed c seen in
         let some : is_whole now ≡ false =
         false_from_ne_true (is_whole now)
         (λ whole. missing ((whole_snoc seen index).0 whole i inside))
         in
-        sent_new seen index within new
+        sent_new own below seen index within new
         ∙ cond-false (is_whole now) (completes (state_of rack (bytes_of now)) d)
         (leaves (More (held_count now)) now) some
 
     sent_whole :
-        (seen : List ℕ) (index : ℕ) → index < count → (Contains seen index → ⊥)
+        (own : ℕ) → own < epoch → (seen : List ℕ) (index : ℕ) → index < count → (Contains seen index → ⊥)
         → ((i : ℕ) → i < count → Contains (seen ++ index ∷ []) i)
-        → sent (after_parts epoch sealed c seen) index
+        → sent own (after_parts epoch sealed c seen) index
         ≡ record { answer = Whole s.last; collected = none_collected; state = Some s }
-    sent_whole seen index within new all =
+    sent_whole own below seen index within new all =
         let now : Collected = after_parts epoch sealed c (seen ++ index ∷ []) in
         let d : Collected = after_parts epoch sealed c seen in
-        sent_new seen index within new
+        sent_new own below seen index within new
         ∙ cond-true (is_whole now) (completes (state_of rack (bytes_of now)) d)
         (leaves (More (held_count now)) now) ((whole_snoc seen index).1 all)
         ∙ ap (λ state. completes state d)
@@ -195,22 +195,23 @@ module _ (rack : Rack) (own epoch : ℕ) (sealed : List ℕ) (s : State) (c : Co
 
     -- the next part of the state, whether it is new or not, while one is missing
     sent_collects :
-        (first : ℕ) (order : List ℕ) (index i : ℕ) → index < count → i < count
+        (own : ℕ) → own < epoch → (first : ℕ) (order : List ℕ) (index i : ℕ) → index < count → i < count
         → (Contains (first ∷ order ++ index ∷ []) i → ⊥)
         → (Contains (first ∷ order) index) ⊎ (Contains (first ∷ order) index → ⊥)
-        → (sent (after first order) index).collected ≡ after first (order ++ index ∷ [])
-    sent_collects first order index i within inside missing (inl come) =
+        → (sent own (after first order) index).collected ≡ after first (order ++ index ∷ [])
+    sent_collects own below first order index i within inside missing (inl come) =
         let d : Collected = after first order in
         let same = begun_same d epoch count (omega (arith, after_is first order)) in
         let has : has_part (begun d epoch count) index ≡ true =
         ap (λ k. has_part k index) same ∙ has_come first order index within come
         in
-        ap (λ (t : Take). t.collected) (sent_again first order index within come)
+        ap (λ (t : Take). t.collected) (sent_again own below first order index within come)
         ∙ sym (cond-true (has_part (begun d epoch count) index) d
         (with_part (begun d epoch count) index (part_of sealed index)) has)
         ∙ sym (snoc sealed epoch c (first ∷ order) index)
-    sent_collects first order index i within inside missing (inr new) =
-        ap (λ (t : Take). t.collected) (sent_more (first ∷ order) index i within new inside missing)
+    sent_collects own below first order index i within inside missing (inr new) =
+        ap (λ (t : Take). t.collected)
+        (sent_more own below (first ∷ order) index i within new inside missing)
 
     come_or_not :
         (first : ℕ) (order : List ℕ) (index : ℕ) → index < count
@@ -226,11 +227,11 @@ module _ (rack : Rack) (own epoch : ℕ) (sealed : List ℕ) (s : State) (c : Co
         (first : ℕ) (order : List ℕ) (arrivals : List Arrival) (i : ℕ) → i < count
         → AllByRecursion (IsInPlace epoch sealed) arrivals
         → (Contains (first ∷ order ++ came arrivals) i → ⊥)
-        → collected_after rack own epoch sealed (after first order) arrivals
+        → collected_after rack epoch sealed (after first order) arrivals
         ≡ after first (order ++ came arrivals)
     later_after first order [] i inside in_place missing =
         ap (after first) (sym (append-nil order))
-    later_after first order (Sent index ∷ arrivals) i inside (within, rest) missing =
+    later_after first order (Sent own index ∷ arrivals) i inside (within, rest) missing =
         let front : List ℕ = order ++ index ∷ [] in
         let same : front ++ came arrivals ≡ order ++ index ∷ came arrivals =
         append_assoc order (index ∷ []) (came arrivals)
@@ -239,94 +240,97 @@ module _ (rack : Rack) (own epoch : ℕ) (sealed : List ℕ) (s : State) (c : Co
         λ come. missing (subst (λ xs. Contains (first ∷ xs) i) same come)
         in
         let step =
-        sent_collects first order index i within inside
+        sent_collects own within.0 first order index i within.1 inside
         (λ come. left (Contains-append_left (first ∷ front) (came arrivals) i come))
-        (come_or_not first order index within)
+        (come_or_not first order index within.1)
         in
-        ap (λ d. collected_after rack own epoch sealed d arrivals) step
+        ap (λ d. collected_after rack epoch sealed d arrivals) step
         ∙ later_after first front arrivals i inside rest left
         ∙ ap (after first) same
-    later_after first order (Other other index many bytes ∷ arrivals) i inside (below, rest) missing =
-        ap (λ (t : Take). collected_after rack own epoch sealed t.collected arrivals)
-        (takes_earlier (after first order) other index many bytes (after_is first order) below)
+    later_after first order (Other own other index many bytes ∷ arrivals) i inside (below, rest) missing =
+        ap (λ (t : Take). collected_after rack epoch sealed t.collected arrivals)
+        (takes_earlier own (after first order) other index many bytes (after_is first order) below)
         ∙ later_after first order arrivals i inside rest missing
 
 -- ---- the law
 
-module _ (rack : Rack) (own epoch : ℕ) (sealed : List ℕ) (s : State) (c : Collected) where
+module _ (rack : Rack) (epoch : ℕ) (sealed : List ℕ) (s : State) (c : Collected) where
   collected_is :
-      (arrivals : List Arrival) → IsCollecting rack own epoch sealed s c arrivals
-      → collected_after rack own epoch sealed c arrivals
+      (arrivals : List Arrival) → IsCollecting rack epoch sealed s c arrivals
+      → collected_after rack epoch sealed c arrivals
       ≡ after_parts epoch sealed c (came arrivals)
   collected_is [] is = refl
-  collected_is (Sent first ∷ arrivals) is =
+  collected_is (Sent own first ∷ arrivals) is =
       let (i, inside, missing) = is.missing in
       let begun =
-      sent_more rack own epoch sealed s c is.handed [] first i is.in_place.0
+      sent_more rack epoch sealed s c is.handed own is.in_place.0.0 [] first i is.in_place.0.1
       (λ none. absurd (omega (arith, none.1))) inside
       (λ come. missing (Contains-append_left (first ∷ []) (came arrivals) i come))
       in
-      ap (λ (t : Take). collected_after rack own epoch sealed t.collected arrivals) begun
-      ∙ later_after rack own epoch sealed s c is.handed first [] arrivals i inside is.in_place.1
+      ap (λ (t : Take). collected_after rack epoch sealed t.collected arrivals) begun
+      ∙ later_after rack epoch sealed s c is.handed first [] arrivals i inside is.in_place.1
       missing
-  collected_is (Other other index many bytes ∷ arrivals) is = absurd is.starts
+  collected_is (Other own other index many bytes ∷ arrivals) is = absurd is.starts
 
   pub old_between :
-      (arrivals : List Arrival) (other index many : ℕ) (bytes : List ℕ)
-      → IsCollecting rack own epoch sealed s c arrivals → 0 < length arrivals → other < epoch
-      → take_part rack own (collected_after rack own epoch sealed c arrivals) other index many bytes
-      ≡ leaves Old (collected_after rack own epoch sealed c arrivals)
-  old_between [] other index many bytes is some below = absurd (omega arith)
-  old_between (Sent first ∷ arrivals) other index many bytes is some below =
-      let same = collected_is (Sent first ∷ arrivals) is in
-      takes_earlier rack own epoch sealed s c is.handed
-      (collected_after rack own epoch sealed c (Sent first ∷ arrivals)) other index many bytes
+      (own : ℕ) (arrivals : List Arrival) (other index many : ℕ) (bytes : List ℕ)
+      → IsCollecting rack epoch sealed s c arrivals → 0 < length arrivals → other < epoch
+      → take_part rack own (collected_after rack epoch sealed c arrivals) other index many bytes
+      ≡ leaves Old (collected_after rack epoch sealed c arrivals)
+  old_between own [] other index many bytes is some below = absurd (omega arith)
+  old_between own (Sent there first ∷ arrivals) other index many bytes is some below =
+      let same = collected_is (Sent there first ∷ arrivals) is in
+      takes_earlier rack epoch sealed s c is.handed own
+      (collected_after rack epoch sealed c (Sent there first ∷ arrivals)) other index many bytes
       (ap (λ (k : Collected). k.epoch) same
-      ∙ after_is rack own epoch sealed s c is.handed first (came arrivals))
+      ∙ after_is rack epoch sealed s c is.handed first (came arrivals))
       below
-  old_between (Other _ _ _ _ ∷ arrivals) other index many bytes is some below = absurd is.starts
+  old_between own (Other _ _ _ _ _ ∷ arrivals) other index many bytes is some below = absurd is.starts
 
   pub repeated_again :
-      (arrivals : List Arrival) (index : ℕ) → IsCollecting rack own epoch sealed s c arrivals
+      (own : ℕ) (arrivals : List Arrival) (index : ℕ)
+      → IsCollecting rack epoch sealed s c arrivals → own < epoch
       → index < length (parts sealed) → Contains (came arrivals) index
-      → takes_arrival rack own epoch sealed (collected_after rack own epoch sealed c arrivals)
-      (Sent index)
-      ≡ leaves Repeated (collected_after rack own epoch sealed c arrivals)
-  repeated_again [] index is within come = absurd (omega (arith, come.1))
-  repeated_again (Sent first ∷ arrivals) index is within come =
-      let same = collected_is (Sent first ∷ arrivals) is in
+      → takes_arrival rack epoch sealed (collected_after rack epoch sealed c arrivals)
+      (Sent own index)
+      ≡ leaves Repeated (collected_after rack epoch sealed c arrivals)
+  repeated_again own [] index is below within come = absurd (omega (arith, come.1))
+  repeated_again own (Sent there first ∷ arrivals) index is below within come =
+      let same = collected_is (Sent there first ∷ arrivals) is in
       subst
-      (λ d. takes_arrival rack own epoch sealed d (Sent index) ≡ leaves Repeated d) (sym same)
-      (sent_again rack own epoch sealed s c is.handed first (came arrivals) index within come)
-  repeated_again (Other _ _ _ _ ∷ arrivals) index is within come = absurd is.starts
+      (λ d. takes_arrival rack epoch sealed d (Sent own index) ≡ leaves Repeated d) (sym same)
+      (sent_again rack epoch sealed s c is.handed own below first (came arrivals) index within come)
+  repeated_again own (Other _ _ _ _ _ ∷ arrivals) index is below within come = absurd is.starts
 
   pub more_missing :
-      (arrivals : List Arrival) (index i : ℕ) → IsCollecting rack own epoch sealed s c arrivals
+      (own : ℕ) (arrivals : List Arrival) (index i : ℕ)
+      → IsCollecting rack epoch sealed s c arrivals → own < epoch
       → index < length (parts sealed) → (Contains (came arrivals) index → ⊥)
       → i < length (parts sealed) → (Contains (came arrivals ++ index ∷ []) i → ⊥)
-      → (takes_arrival rack own epoch sealed (collected_after rack own epoch sealed c arrivals)
-      (Sent index)).answer
+      → (takes_arrival rack epoch sealed (collected_after rack epoch sealed c arrivals)
+      (Sent own index)).answer
       ≡ More (held_count
-      (takes_arrival rack own epoch sealed (collected_after rack own epoch sealed c arrivals)
-      (Sent index)).collected)
-  more_missing arrivals index i is within new inside missing =
+      (takes_arrival rack epoch sealed (collected_after rack epoch sealed c arrivals)
+      (Sent own index)).collected)
+  more_missing own arrivals index i is below within new inside missing =
       let same = collected_is arrivals is in
       subst
-      (λ d. (takes_arrival rack own epoch sealed d (Sent index)).answer
-      ≡ More (held_count (takes_arrival rack own epoch sealed d (Sent index)).collected))
+      (λ d. (takes_arrival rack epoch sealed d (Sent own index)).answer
+      ≡ More (held_count (takes_arrival rack epoch sealed d (Sent own index)).collected))
       (sym same)
       (subst (λ (t : Take). t.answer ≡ More (held_count t.collected))
-      (sym (sent_more rack own epoch sealed s c is.handed (came arrivals) index i within new inside
-      missing))
+      (sym (sent_more rack epoch sealed s c is.handed own below (came arrivals) index i within new
+      inside missing))
       refl)
 
   pub whole_with_the_last :
-      (arrivals : List Arrival) (index : ℕ) → IsCollecting rack own epoch sealed s c arrivals
+      (own : ℕ) (arrivals : List Arrival) (index : ℕ)
+      → IsCollecting rack epoch sealed s c arrivals → own < epoch
       → index < length (parts sealed) → (Contains (came arrivals) index → ⊥)
       → ((i : ℕ) → i < length (parts sealed) → Contains (came arrivals ++ index ∷ []) i)
-      → takes_arrival rack own epoch sealed (collected_after rack own epoch sealed c arrivals)
-      (Sent index)
+      → takes_arrival rack epoch sealed (collected_after rack epoch sealed c arrivals)
+      (Sent own index)
       ≡ record { answer = Whole s.last; collected = none_collected; state = Some s }
-  whole_with_the_last arrivals index is within new all =
-      ap (λ d. takes_arrival rack own epoch sealed d (Sent index)) (collected_is arrivals is)
-      ∙ sent_whole rack own epoch sealed s c is.handed (came arrivals) index within new all
+  whole_with_the_last own arrivals index is below within new all =
+      ap (λ d. takes_arrival rack epoch sealed d (Sent own index)) (collected_is arrivals is)
+      ∙ sent_whole rack epoch sealed s c is.handed own below (came arrivals) index within new all

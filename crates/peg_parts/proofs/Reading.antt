@@ -10,7 +10,7 @@ use Rattle.std.proofs.lemmas.Bool.Decides.{nat_tests}
 use Rattle.std.proofs.lemmas.List.{take_more_set}
 use Rattle.peg_name.specs.Name.{Rack}
 use Rattle.peg_name.specs.declared.Format.{Format}
-use Rattle.peg_event.specs.declared.Listing.{Listing}
+use Rattle.peg_event.specs.declared.answers.Listing.{Listing}
 use Rattle.peg_model.specs.Packet.{are_distinct, is_positive}
 use Rattle.peg_model.specs.Reading.{two_at, eight_at, past_key}
 use Rattle.peg_model.specs.Rules.{Directory}

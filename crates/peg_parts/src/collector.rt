@@ -11,21 +11,10 @@ use crate::held::{PartBytes, begin, has, held_count, hold, join};
 use crate::reader::Reader;
 use crate::spell::put;
 use peg_directory::Directory;
-use peg_name::{Config, Format, OutOfMemory};
+use peg_name::{Config, OutOfMemory};
 use peg_stamp::Stamper;
 use std::alloc::Global;
 use std::marker::Model;
-
-/// The most parts that a state of the format has.
-fn parts_most(format: Format) -> u8
-    ensures most { result ≡ parts_most format }
-    ensures few { result ≤ 64 }
-{
-    match format {
-        Format::One => 32,
-        Format::Two => 64,
-    }
-}
 
 /// The parts of one epoch that came in so far. All its room is taken when it is made.
 #[derive(Drop)]
@@ -60,7 +49,7 @@ impl Collector {
         ensures { IfOk result
             (λ c. c ≡ record { rack = config.now; collected = none_collected }) }
     {
-        let most = usize::from(parts_most(config.format()));
+        let most = usize::from(config.format().most_parts());
         Ok(Collector {
             config: *config,
             epoch: 0,

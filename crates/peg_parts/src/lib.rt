@@ -69,35 +69,36 @@ pub fn takes_parts_as_the_book_does()
 {}
 
 /// For those who hand a state over: it arrives whole, in whatever order its parts come, however
-/// often, and with parts of earlier epochs between them. While some are missing, a part of an
+/// often, and with parts of earlier epochs between them, as long as the switch's own epoch is an
+/// earlier one at each. While some are missing, a part of an
 /// earlier epoch is old, one that came before is repeated, and a new one is held. The part with
 /// which each has come gives back the sealed state, whole, and nothing is collected then.
 pub fn collects_a_sealed_state_in_any_order()
     ensures old { (rack : Rack) (own epoch : ℕ) (sealed : List ℕ) (s : State) (c : Collected)
         (arrivals : List Arrival) (other index count : ℕ) (bytes : List ℕ)
-        → IsCollecting rack own epoch sealed s c arrivals → 0 < length arrivals → other < epoch
-        → take_part rack own (collected_after rack own epoch sealed c arrivals) other index count
-        bytes ≡ leaves Old (collected_after rack own epoch sealed c arrivals) }
+        → IsCollecting rack epoch sealed s c arrivals → 0 < length arrivals → other < epoch
+        → take_part rack own (collected_after rack epoch sealed c arrivals) other index count
+        bytes ≡ leaves Old (collected_after rack epoch sealed c arrivals) }
     ensures repeated { (rack : Rack) (own epoch : ℕ) (sealed : List ℕ) (s : State) (c : Collected)
-        (arrivals : List Arrival) (index : ℕ) → IsCollecting rack own epoch sealed s c arrivals
-        → index < length (parts sealed) → Contains (came arrivals) index
-        → takes_arrival rack own epoch sealed (collected_after rack own epoch sealed c arrivals)
-        (Sent index) ≡ leaves Repeated (collected_after rack own epoch sealed c arrivals) }
+        (arrivals : List Arrival) (index : ℕ) → IsCollecting rack epoch sealed s c arrivals
+        → own < epoch → index < length (parts sealed) → Contains (came arrivals) index
+        → takes_arrival rack epoch sealed (collected_after rack epoch sealed c arrivals)
+        (Sent own index) ≡ leaves Repeated (collected_after rack epoch sealed c arrivals) }
     ensures more { (rack : Rack) (own epoch : ℕ) (sealed : List ℕ) (s : State) (c : Collected)
         (arrivals : List Arrival) (index missing : ℕ)
-        → IsCollecting rack own epoch sealed s c arrivals
-        → index < length (parts sealed) → ¬ Contains (came arrivals) index
+        → IsCollecting rack epoch sealed s c arrivals
+        → own < epoch → index < length (parts sealed) → ¬ Contains (came arrivals) index
         → missing < length (parts sealed) → ¬ Contains (came arrivals ++ index ∷ []) missing
-        → (takes_arrival rack own epoch sealed (collected_after rack own epoch sealed c arrivals)
-        (Sent index)).answer
+        → (takes_arrival rack epoch sealed (collected_after rack epoch sealed c arrivals)
+        (Sent own index)).answer
         ≡ More (held_count
-        (takes_arrival rack own epoch sealed (collected_after rack own epoch sealed c arrivals)
-        (Sent index)).collected) }
+        (takes_arrival rack epoch sealed (collected_after rack epoch sealed c arrivals)
+        (Sent own index)).collected) }
     ensures whole { (rack : Rack) (own epoch : ℕ) (sealed : List ℕ) (s : State) (c : Collected)
-        (arrivals : List Arrival) (index : ℕ) → IsCollecting rack own epoch sealed s c arrivals
-        → index < length (parts sealed) → ¬ Contains (came arrivals) index
+        (arrivals : List Arrival) (index : ℕ) → IsCollecting rack epoch sealed s c arrivals
+        → own < epoch → index < length (parts sealed) → ¬ Contains (came arrivals) index
         → ((i : ℕ) → i < length (parts sealed) → Contains (came arrivals ++ index ∷ []) i)
-        → takes_arrival rack own epoch sealed (collected_after rack own epoch sealed c arrivals)
-        (Sent index)
+        → takes_arrival rack epoch sealed (collected_after rack epoch sealed c arrivals)
+        (Sent own index)
         ≡ record { answer = Whole s.last; collected = none_collected; state = Some s } }
 {}

@@ -4,7 +4,7 @@ use Rattle.std.proofs.Common.{flat_map, map, Some, None, slice_get, codes, decim
 use Rattle.std.proofs.Common.{◌∙◌, arith, drop-cons}
 use Rattle.std.proofs.Common.{append_assoc}
 use Rattle.std.proofs.lemmas.Option.{get_or_from_slice_get, slice_get_within}
-use Rattle.peg_event.specs.declared.Op.{Op}
+use Rattle.peg_event.specs.declared.history.Op.{Op}
 use Rattle.peg_event.specs.declared.Said.TheVariants as said
 use Rattle.peg_event.specs.declared.Line.{Line}
 use Rattle.peg_model.specs.Schedule.{fed}

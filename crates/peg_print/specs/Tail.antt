@@ -2,7 +2,7 @@
 --     key_order o      an order of a key as the pair of these
 --     history_lines ops      the line history and those of the operations
 use Rattle.std.specs.Prelude.{ℕ, List, ◌++◌, length, codes, decimal}
-use Rattle.peg_event.specs.declared.Op.{Op}
+use Rattle.peg_event.specs.declared.history.Op.{Op}
 use Rattle.peg_model.specs.Schedule.{fed}
 use Rattle.peg_model.specs.Trace.{ops_text}
 use Rattle.peg_history.specs.declared.KeyOrder.{KeyOrder}

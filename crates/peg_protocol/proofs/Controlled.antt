@@ -371,7 +371,7 @@ module _ (firsts : List ℕ) (number : ℕ) (command : Option What) (switch epoc
       }
 
   -- the pending command again
-  pending_is : (what : What) → command ≡ Some what → what ≡ c.commands number
+  pub pending_is : (what : What) → command ≡ Some what → what ≡ c.commands number
   pending_is what is = elim c.phase [
     | Quiet p1 p2 p3 p4 p5 p6 p7 ↦ absurd (cc)
     | Waiting p1 p2 p3 p4 p5 p6 p7 p8 ↦ same_Some what (c.commands number) (sym is ∙ p1)

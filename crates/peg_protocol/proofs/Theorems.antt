@@ -17,7 +17,7 @@ use Rattle.peg_protocol.specs.ControllerLaw.{ControllerLaw, pending_speaks_of}
 use Rattle.peg_protocol.proofs.Keys.{known_other}
 use Rattle.std.proofs.lemmas.Option.{same_Some}
 use Rattle.peg_protocol.proofs.Controlled.{Quiet, Waiting, Done, Sealing, Moved, NotSeal, SealFits}
-use Rattle.peg_protocol.proofs.Controlled.{OrderFits, OrderOk}
+use Rattle.peg_protocol.proofs.Controlled.{OrderFits, OrderOk, pending_is}
 
 module _ (s : System) (h : Whole s) where
   pub fits : (b epoch i n : ℕ) (core : Core) → PartWasSent s b epoch i n core →
@@ -113,6 +113,10 @@ module _ (s : System) (h : Whole s) where
         let d = ordered Controller (Ack n o) y in
         subst₂ (λ (w : What) (q : Outcome). belongs n w q ≡ true) (sym c.2) (sym d.1)
         (h.controlled.fits n c.0 (omega (arith, d.0, limit_most)));
+    pending = λ a what what' is x. (ordered (Switch a) (Command s.number what') x).2
+        ∙ sym (pending_is s.rack.keys s.number s.command s.switch s.epoch s.known s.sent h.holder
+        (s.modes h.holder) (s.epochs h.holder) (s.outcomes h.holder) (s.cores h.holder).last
+        (s.cores h.holder).entries h.controlled what is);
     last = elim h.controlled.phase [
       | Quiet p1 p2 p3 p4 p5 p6 p7 ↦ inl p2
       | Waiting p1 p2 p3 p4 p5 p6 p7 p8 ↦ inr (p2, ap is_some p1)

@@ -44,6 +44,8 @@ pub record ControllerLaw (s : System) (holder : ℕ) : Type 0 where
   pub one_outcome : (n : ℕ) (o o' : Outcome) → AckWasSent s n o → AckWasSent s n o' → o ≡ o'
   pub can_belong : (a n : ℕ) (what : What) (o : Outcome) → CommandWasSent s a n what →
       AckWasSent s n o → belongs n what o ≡ true
+  pub pending : (a : ℕ) (what what' : What) → s.command ≡ Some what →
+      CommandWasSent s a s.number what' → what' ≡ what
   pub last : ((s.cores holder).last ≡ s.number)
       ⊎ (((s.cores holder).last + 1 ≡ s.number) × IsSome s.command)
   pub seal_epoch : (t e : ℕ) → s.command ≡ Some (Seal t e) → e ≡ s.epoch + 1

@@ -1,6 +1,6 @@
 -- The orders that a world answers are the printed orders of the book.
 use Rattle.std.proofs.Common.{◌≡◌, ℕ, List, [], ◌∷◌, map, refl, ap, ◌∙◌}
-use Rattle.peg_event.specs.declared.Op.{Op}
+use Rattle.peg_event.specs.declared.history.Op.{Op}
 use Rattle.peg_model.specs.World.{World, history}
 use Rattle.peg_model.specs.Order.{orders, order_of, keys_in}
 use Rattle.peg_history.specs.declared.KeyOrder.{KeyOrder}

@@ -6,7 +6,7 @@ use Rattle.std.proofs.lemmas.Bool.Decides.{nat_tests}
 use Rattle.peg_name.specs.Name.{Rack}
 use Rattle.peg_event.specs.declared.Event.{Event}
 use Rattle.peg_event.specs.declared.Line.{Line}
-use Rattle.peg_event.specs.declared.Op.{Op}
+use Rattle.peg_event.specs.declared.history.Op.{Op}
 use Rattle.peg_model.specs.World.{history, step}
 use Rattle.peg_model.specs.Order.{orders}
 use Rattle.peg_model.specs.Schedule.{IsRackLine, IsEventLine, fed}

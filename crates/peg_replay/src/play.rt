@@ -1,6 +1,5 @@
 // A schedule behind its rack line.
 ghost use Rattle.std.specs.Prelude.{◌≡◌, ◌≤◌, ◌<◌, ◌+◌, ℕ, [], false, true};
-ghost use Rattle.peg_name.specs.Name as name;
 ghost use Rattle.peg_model.specs.Schedule.{EventInRack};
 ghost use Rattle.peg_io.specs.Outside.{Rose};
 ghost use Rattle.peg_meaning.specs.Session as session;
@@ -9,7 +8,6 @@ ghost use Rattle.peg_session.specs.Took.{Took, TookLine, WantFits};
 
 use peg_event::Event;
 use peg_io::Sink;
-use peg_name::Format;
 use peg_print::{push_end, push_line, push_tail};
 use peg_session::{Page, Stepped, Want};
 use peg_text::{Entry, Rack, Text, event_of};
@@ -23,16 +21,6 @@ pub(crate) struct Play {
     pub(crate) world: World,
     pub(crate) place: u64,
     pub(crate) is_over: bool,
-}
-
-fn line_most(format: Format) -> usize
-    ensures most { result ≡ name.line_most format }
-    ensures fits { result ≤ 4096 }
-{
-    match format {
-        Format::One => 2048,
-        Format::Two => 4096,
-    }
 }
 
 impl Play {
@@ -111,7 +99,7 @@ impl Play {
             return Want::Over;
         }
         Want::Line {
-            limit: line_most(self.rack.config().format()),
+            limit: self.rack.config().format().most_of_line(),
             optional: false,
         }
     }

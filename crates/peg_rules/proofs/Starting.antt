@@ -7,9 +7,9 @@ use Rattle.std.specs.Cmp.Lexicographic.{nat_list_eq_equiv}
 use Rattle.std.specs.Map.{keys_of}
 use Rattle.std.specs.Str.{bytes_eq}
 use Rattle.peg_name.specs.Name.{Rack, home_of}
-use Rattle.peg_event.specs.declared.Listing.{Listing}
-use Rattle.peg_event.specs.declared.Promoted.{Promoted}
-use Rattle.peg_event.specs.declared.Promoted.TheVariants.{Full, Listed}
+use Rattle.peg_event.specs.declared.answers.Listing.{Listing}
+use Rattle.peg_event.specs.declared.answers.Promoted.{Promoted}
+use Rattle.peg_event.specs.declared.answers.Promoted.TheVariants.{Full, Listed}
 use Rattle.peg_model.specs.Words.{is_in}
 use Rattle.peg_model.specs.Packet.{are_distinct}
 use Rattle.peg_model.specs.Rules.{Directory, entry_of, new_listing, list_key, list_unless}

@@ -5,14 +5,14 @@
 --     OfLast promoted      no version is left only where the next one is the last number
 use Rattle.std.specs.Prelude.{ℕ, ◌≡◌, ◌<◌, ◌≤◌, Bool, true, false}
 use Rattle.peg_name.specs.Name.{Rack}
-use Rattle.peg_event.specs.declared.Forward.{Forward}
-use Rattle.peg_event.specs.declared.Forward.TheVariants.{To, Stale, Exhausted}
-use Rattle.peg_event.specs.declared.Promoted.{Promoted}
-use Rattle.peg_event.specs.declared.Promoted.TheVariants as promoted
-use Rattle.peg_event.specs.declared.CopyFrom.{CopyFrom}
-use Rattle.peg_event.specs.declared.CopyFrom.TheVariants as copy_from
-use Rattle.peg_event.specs.declared.FenceOf.{FenceOf}
-use Rattle.peg_event.specs.declared.FenceOf.TheVariants as fence_at
+use Rattle.peg_event.specs.declared.answers.Forward.{Forward}
+use Rattle.peg_event.specs.declared.answers.Forward.TheVariants.{To, Stale, Exhausted}
+use Rattle.peg_event.specs.declared.answers.Promoted.{Promoted}
+use Rattle.peg_event.specs.declared.answers.Promoted.TheVariants as promoted
+use Rattle.peg_event.specs.declared.answers.CopyFrom.{CopyFrom}
+use Rattle.peg_event.specs.declared.answers.CopyFrom.TheVariants as copy_from
+use Rattle.peg_event.specs.declared.answers.FenceOf.{FenceOf}
+use Rattle.peg_event.specs.declared.answers.FenceOf.TheVariants as fence_at
 use Rattle.peg_model.specs.Words.{last_number}
 
 -- a stamped write has a version of at least 1

@@ -2,16 +2,16 @@
 use Rattle.std.proofs.Common.{◌≡◌, ◌≤◌, ◌+◌, ℕ, suc, Option, Some, None, List, [], ◌∷◌, ◌++◌}
 use Rattle.std.proofs.Common.{length}
 use Rattle.std.proofs.Common.{refl, ap, ◌∙◌, arith, length-append, slice_get}
-use Rattle.peg_name.specs.declared.Content.TheVariants.{Absent, Present}
+use Rattle.peg_name.specs.declared.value.Content.TheVariants.{Absent, Present}
 use Rattle.peg_name.specs.declared.Node.{Node}
 use Rattle.peg_name.specs.declared.Node.TheVariants as node
 use Rattle.peg_event.specs.declared.Event.{Event}
 use Rattle.peg_event.specs.declared.Event.TheVariants as event
-use Rattle.peg_event.specs.declared.Op.{Op}
-use Rattle.peg_event.specs.declared.Ask.{Ask}
-use Rattle.peg_event.specs.declared.Ask.TheVariants as ask
-use Rattle.peg_event.specs.declared.Issue.{Issue}
-use Rattle.peg_event.specs.declared.Issue.TheVariants as issue
+use Rattle.peg_event.specs.declared.history.Op.{Op}
+use Rattle.peg_event.specs.declared.answers.Ask.{Ask}
+use Rattle.peg_event.specs.declared.answers.Ask.TheVariants as ask
+use Rattle.peg_event.specs.declared.answers.Issue.{Issue}
+use Rattle.peg_event.specs.declared.answers.Issue.TheVariants as issue
 use Rattle.peg_event.specs.declared.Said.{Said}
 use Rattle.peg_event.specs.declared.Said.TheVariants as said
 use Rattle.peg_event.specs.declared.Command.{Command}

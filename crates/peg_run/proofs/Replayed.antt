@@ -23,6 +23,7 @@ use Rattle.peg_run.specs.Ends.{IsNearBad}
 use Rattle.peg_run.specs.Forced.{reached, IsOnlyRack, IsOnlyEvent, IsForced}
 use Rattle.peg_run.specs.declared.Status.TheVariants as status
 use Rattle.peg_io.proofs.Telling.{Tells_as}
+use Rattle.peg_session.proofs.Passing.{some_is_part}
 use Rattle.peg_run.proofs.Runs.{reached_more, text_more, whole_text, length_more}
 use Rattle.peg_run.proofs.Fronts.{all_more, forced_is_read, forced_more}
 use Rattle.peg_run.proofs.Schedules.{past_has_none, refused_has_none, first_has_none}
@@ -715,7 +716,9 @@ module _ (l l' h h' : Option (List ℕ)) (c c' : Option Carried) (n n' : ℕ) wh
     cut_of l l' h h' (state_of replays replay_start ended.0.inputs)
         (session.text_of replays replay_start ended.0.inputs) (lines_of ended.0.inputs)
         (ends.IsRead replays replay_start ended.0.inputs)
-        (played ended.0.inputs ended.0.taken) ended.0.read ended.0.written,
+        (played ended.0.inputs ended.0.taken) ended.0.read
+        (some_is_part (session.text_of replays replay_start ended.0.inputs) h h'
+        ended.0.written),
     near_of l l' h h' (state_of replays replay_start ended.1.front)
         (session.text_of replays replay_start ended.1.front) (lines_of ended.1.front)
         (ends.IsRead replays replay_start ended.1.front)

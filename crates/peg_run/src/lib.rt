@@ -25,9 +25,9 @@ use std::alloc::Global;
 use std::fmt;
 
 #[cfg(test)]
-mod rows;
-#[cfg(test)]
 mod tests;
+#[cfg(test)]
+mod worked;
 
 /// How a run ended.
 #[derive(Clone, Copy, Debug, PartialEq, Eq)]

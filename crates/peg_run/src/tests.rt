@@ -1,7 +1,9 @@
 ghost use Rattle.std.specs.Prelude.{◌<◌};
 ghost use Rattle.peg_model.specs.Schedule.{EventInRack};
 
-use crate::rows::*;
+mod realistic;
+
+use crate::worked::*;
 use crate::{Status, run};
 use peg_event::Event;
 use peg_io::{Got, MemorySink, MemorySource, NoWire, Source};

@@ -11,9 +11,9 @@ use Rattle.std.proofs.lemmas.Bool.{lt-ltb}
 use Rattle.peg_name.specs.Name.{key_cmp}
 use Rattle.peg_name.specs.declared.Format.{Format}
 use Rattle.peg_name.specs.declared.Format.TheVariants.{One, Two}
-use Rattle.peg_name.specs.declared.Content.{Content}
-use Rattle.peg_name.specs.declared.Content.TheVariants.{Absent, Present}
-use Rattle.peg_event.specs.declared.Stored.{Stored}
+use Rattle.peg_name.specs.declared.value.Content.{Content}
+use Rattle.peg_name.specs.declared.value.Content.TheVariants.{Absent, Present}
+use Rattle.peg_event.specs.declared.answers.Stored.{Stored}
 use Rattle.peg_model.specs.Packet.{is_content, is_written, is_read_content}
 use Rattle.peg_model.specs.Server.{Store, held, nothing_held, applied, fenced}
 use Rattle.peg_server.specs.Fits.{stored_fits, store_fits}

@@ -5,16 +5,16 @@ use Rattle.std.proofs.Common.{refl, nat_lt, arith}
 use Rattle.std.proofs.lemmas.Bool.{cond_both}
 use Rattle.std.proofs.lemmas.Bool.Decides.{nat_tests}
 use Rattle.std.specs.Cmp.Derive.{both_true}
-use Rattle.peg_name.specs.declared.Content.{Content}
+use Rattle.peg_name.specs.declared.value.Content.{Content}
 use Rattle.peg_name.specs.declared.Format.{Format}
-use Rattle.peg_event.specs.declared.Apply.{Apply}
-use Rattle.peg_event.specs.declared.Apply.TheVariants as apply
-use Rattle.peg_event.specs.declared.FenceDid.{FenceDid}
-use Rattle.peg_event.specs.declared.FenceDid.TheVariants as fence_did
+use Rattle.peg_event.specs.declared.answers.Apply.{Apply}
+use Rattle.peg_event.specs.declared.answers.Apply.TheVariants as apply
+use Rattle.peg_event.specs.declared.answers.FenceDid.{FenceDid}
+use Rattle.peg_event.specs.declared.answers.FenceDid.TheVariants as fence_did
 use Rattle.peg_event.specs.declared.ServerDid.TheVariants as server_did
-use Rattle.peg_event.specs.declared.Stored.{Stored}
-use Rattle.peg_event.specs.declared.WriteDid.{WriteDid}
-use Rattle.peg_event.specs.declared.WriteDid.TheVariants as write_did
+use Rattle.peg_event.specs.declared.answers.Stored.{Stored}
+use Rattle.peg_event.specs.declared.answers.WriteDid.{WriteDid}
+use Rattle.peg_event.specs.declared.answers.WriteDid.TheVariants as write_did
 use Rattle.peg_model.specs.Words.{refuse}
 use Rattle.peg_model.specs.Packet.{Packet, ToServerRead, ToServerWrite, CopyOrder, CopyData, Fence}
 use Rattle.peg_model.specs.Server.{Server, serve, serve_write, serve_copy, serve_fence, serve_order}

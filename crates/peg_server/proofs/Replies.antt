@@ -3,7 +3,7 @@ use Rattle.std.proofs.Common.{◌≡◌, ℕ, ◌^◌, ◌<◌, true, List, arit
 use Rattle.std.proofs.lemmas.Bool.Decides.{nat_tests}
 use Rattle.peg_name.specs.declared.Format.{Format}
 use Rattle.peg_name.specs.declared.Format.TheVariants.{One, Two}
-use Rattle.peg_name.specs.declared.Content.{Content}
+use Rattle.peg_name.specs.declared.value.Content.{Content}
 use Rattle.peg_model.specs.Packet.{in_range, is_read_content, is_content, ToServerRead}
 use Rattle.peg_model.specs.Packet.{ToServerWrite, ReadReply, WriteReply, CopyOrder, CopyData}
 use Rattle.peg_model.specs.Packet.{Held, Fence, Void}

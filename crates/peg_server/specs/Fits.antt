@@ -4,7 +4,7 @@
 use Rattle.std.specs.Prelude.{◌&&◌, nat_lt, Bool}
 use Rattle.std.specs.List.{list_all}
 use Rattle.peg_name.specs.declared.Format.{Format}
-use Rattle.peg_event.specs.declared.Stored.{Stored}
+use Rattle.peg_event.specs.declared.answers.Stored.{Stored}
 use Rattle.peg_model.specs.Packet.{is_content}
 use Rattle.peg_model.specs.Server.{Store}
 

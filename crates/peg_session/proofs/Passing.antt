@@ -1,7 +1,8 @@
 -- Text that goes over a page.
-use Rattle.std.proofs.Common.{◌≡◌, ℕ, Bool, true, false, Option, List, [], ◌++◌}
-use Rattle.std.proofs.Common.{take, drop, refl, sym, ap, ◌∙◌, append_assoc, subst}
-use Rattle.std.proofs.lemmas.List.{take-append-drop, append-nil}
+use Rattle.std.proofs.Common.{◌≡◌, ◌+◌, ℕ, Bool, true, false, Option, List, [], ◌++◌, length}
+use Rattle.std.proofs.Common.{take, drop, refl, sym, ap, ◌∙◌, append_assoc, subst, arith, length-append}
+use Rattle.std.proofs.lemmas.List.{take-append-le, take-append-drop, append-nil}
+use Rattle.std.proofs.Math.Seq.{take-append-add}
 use Rattle.peg_io.specs.Outside.{Tells, WritesSome}
 use Rattle.peg_io.proofs.Telling.{Tells_more, Tells_as, Tells_none}
 use Rattle.peg_session.specs.Pages.{AppendsPart, Moves, Passes}
@@ -10,24 +11,29 @@ use Rattle.peg_session.specs.Pages.{AppendsPart, Moves, Passes}
 
 pub part_written :
     (bytes : List ℕ) (before now : Option (List ℕ)) → Tells before now (WritesSome bytes)
-    → Tells before now (AppendsPart (bytes ++ []))
+    → Tells before now (WritesSome (bytes ++ []))
 part_written bytes before now told =
-    Tells_as before now (WritesSome bytes) (AppendsPart (bytes ++ []))
+    subst (λ xs. Tells before now (WritesSome xs)) (sym (append-nil bytes)) told
+
+pub some_is_part :
+    (text : List ℕ) (before now : Option (List ℕ)) → Tells before now (WritesSome text)
+    → Tells before now (AppendsPart text)
+some_is_part text before now told =
+    Tells_as before now (WritesSome text) (AppendsPart text)
     (λ b n some. (
-      take some.0 bytes,
-      drop some.0 bytes,
-      append-nil bytes ∙ sym (take-append-drop some.0 bytes),
+      take some.0 text,
+      drop some.0 text,
+      sym (take-append-drop some.0 text),
       some.2,
     )) told
 
--- a first part of a text is one of a longer text
-pub part_of_more :
-    (text more : List ℕ) (b n : List ℕ) → AppendsPart text b n → AppendsPart (text ++ more) b n
-part_of_more text more b n cut = (
-  cut.0,
-  cut.1 ++ more,
-  ap (λ xs. xs ++ more) cut.2 ∙ append_assoc cut.0 cut.1 more,
-  cut.3,
+-- fewer than all bytes of a text are fewer than those of a longer one
+pub some_of_more :
+    (text more : List ℕ) (b n : List ℕ) → WritesSome text b n → WritesSome (text ++ more) b n
+some_of_more text more b n some = (
+  some.0,
+  omega (arith, some.1, length-append text more),
+  some.2 ∙ ap (λ xs. b ++ xs) (sym (take-append-le some.0 text more (omega (arith, some.1)))),
 )
 
 -- ---- text over a page
@@ -58,15 +64,19 @@ moves_then text more page mid page' b m n one two = (
 -- the other was cut
 pub cut_then :
     (text more page mid : List ℕ) (b m n : List ℕ) → Moves text page mid b m
-    → AppendsPart (mid ++ more) m n → AppendsPart (page ++ (text ++ more)) b n
-cut_then text more page mid b m n one cut = (
-  one.0 ++ cut.0,
-  cut.1,
-  sym (append_assoc page text more) ∙ ap (λ xs. xs ++ more) one.1
-      ∙ append_assoc one.0 mid more ∙ ap (λ xs. one.0 ++ xs) cut.2
-      ∙ sym (append_assoc one.0 cut.0 cut.1),
-  cut.3 ∙ ap (λ xs. xs ++ cut.0) one.2 ∙ append_assoc b one.0 cut.0,
-)
+    → WritesSome (mid ++ more) m n → WritesSome (page ++ (text ++ more)) b n
+cut_then text more page mid b m n one some =
+    let whole : page ++ (text ++ more) ≡ one.0 ++ (mid ++ more) =
+    sym (append_assoc page text more) ∙ ap (λ xs. xs ++ more) one.1
+    ∙ append_assoc one.0 mid more in (
+      length one.0 + some.0,
+      omega (arith, ap length whole, length-append one.0 (mid ++ more), some.1),
+      some.2 ∙ ap (λ xs. xs ++ take some.0 (mid ++ more)) one.2
+          ∙ append_assoc b one.0 (take some.0 (mid ++ more))
+          ∙ ap (λ xs. b ++ xs)
+          (sym (take-append-add one.0 (mid ++ more) some.0)
+          ∙ ap (λ xs. take (length one.0 + some.0) xs) (sym whole)),
+    )
 
 pub passes_then :
     (r : Bool) (text more page mid page' : List ℕ) (held hmid held' : Option (List ℕ))
@@ -76,17 +86,17 @@ passes_then true text more page mid page' held hmid held' one two =
     Tells_more held hmid held' (Moves text page mid) (Moves more mid page')
     (Moves (text ++ more) page page') (moves_then text more page mid page') one two
 passes_then false text more page mid page' held hmid held' one two =
-    Tells_more held hmid held' (Moves text page mid) (AppendsPart (mid ++ more))
-    (AppendsPart (page ++ (text ++ more))) (cut_then text more page mid) one two
+    Tells_more held hmid held' (Moves text page mid) (WritesSome (mid ++ more))
+    (WritesSome (page ++ (text ++ more))) (cut_then text more page mid) one two
 
 -- the first was cut, and the other was not tried
 pub passes_none :
     (text more page mid page' : List ℕ) (held held' : Option (List ℕ))
     → Passes false text page mid held held' → Passes false (text ++ more) page page' held held'
 passes_none text more page mid page' held held' one =
-    Tells_as held held' (AppendsPart (page ++ text)) (AppendsPart (page ++ (text ++ more)))
-    (λ b n cut. subst (λ xs. AppendsPart xs b n) (append_assoc page text more)
-    (part_of_more (page ++ text) more b n cut)) one
+    Tells_as held held' (WritesSome (page ++ text)) (WritesSome (page ++ (text ++ more)))
+    (λ b n some. subst (λ xs. WritesSome xs b n) (append_assoc page text more)
+    (some_of_more (page ++ text) more b n some)) one
 
 -- the same where the answer is known to be false
 pub passes_off :

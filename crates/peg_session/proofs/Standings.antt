@@ -1,13 +1,14 @@
 -- How a session stands after each call.
 use Rattle.std.proofs.Common.{◌≡◌, ◌≢◌, ◌⊎◌, ◌≤◌, ◌<◌, ◌+◌, ℕ, Bool, true, false, Option, List, []}
-use Rattle.std.proofs.Common.{Some, None, ◌∷◌, ◌++◌, length, map, drop, take, refl, sym, ap, ◌∙◌, subst, arith}
+use Rattle.std.proofs.Common.{Some, None, ◌∷◌, ◌++◌, length, map, drop, take, refl, sym, ap, ◌∙◌, subst, arith, not, suc}
 use Rattle.std.proofs.Common.{append_assoc, inl, inr}
 use Rattle.std.proofs.lemmas.List.{append-nil, length-take}
 use Rattle.std.proofs.Math.Seq.{drop-append-add}
 use Rattle.peg_meaning.specs.Wire as wire
-use Rattle.peg_io.specs.Outside.{Tells, Appends}
+use Rattle.peg_io.specs.Outside.{Tells, Appends, WritesSome}
 use Rattle.peg_meaning.specs.Wire.{Carried, Sent, Turn, with_turn}
-use Rattle.peg_io.specs.Lines.{line_of, past_line, has_feed, ReadAhead, Gives, Keeps, HasNoFeed}
+use Rattle.peg_io.specs.Lines.{line_of, past_line, past_lines, has_feed, ReadAhead, Gives, Keeps}
+use Rattle.peg_io.specs.Lines.{HasNoFeed, AreFed}
 use Rattle.peg_io.specs.declared.lines.NextLine.{NextLine}
 use Rattle.peg_io.specs.declared.lines.NextLine.TheVariants as next
 use Rattle.peg_session.specs.Pages.{AppendsPart, AppendsMore, Moves, Passes}
@@ -27,7 +28,7 @@ use Rattle.peg_io.specs.Outside.{Rose}
 use Rattle.std.specs.Prelude.{IfSome}
 use Rattle.peg_session.specs.Ends.{HasCause, MayEnd, IsEnd, IsRefused, IsNearRefused}
 use Rattle.peg_session.specs.Standing.{Stands, Waits, HasLine, HasTaken, Closes}
-use Rattle.peg_session.specs.Standing.{Settles, Stops, IsReadOn}
+use Rattle.peg_session.specs.Standing.{Settles, Stops, IsReadOn, IsFed}
 use Rattle.peg_meaning.specs.declared.Want.{Want}
 use Rattle.peg_meaning.specs.declared.Want.TheVariants as want
 use Rattle.peg_session.specs.declared.End.{End}
@@ -35,7 +36,8 @@ use Rattle.peg_session.specs.declared.End.TheVariants as end
 use Rattle.peg_session.specs.declared.Stepped.{Stepped}
 use Rattle.peg_session.specs.declared.Stepped.TheVariants as stepped
 use Rattle.peg_session.specs.declared.desk.Desk.{Desk}
-use Rattle.peg_io.proofs.Telling.{Tells_more, Tells_as, Tells_none}
+use Rattle.peg_io.proofs.Telling.{Tells_more, Tells_as, Tells_both, Tells_none}
+use Rattle.peg_io.proofs.LineLemmas.{fed_more, unfed_past}
 use Rattle.peg_session.proofs.Passing.{moves_then, cut_then}
 
 -- ---- the sink
@@ -46,8 +48,8 @@ Grows b n = (more : List ℕ) × (n ≡ b ++ more)
 pub moves_grow : (text page page' b n : List ℕ) → Moves text page page' b n → Grows b n
 moves_grow text page page' b n moves = (moves.0, moves.2)
 
-pub part_grows : (text b n : List ℕ) → AppendsPart text b n → Grows b n
-part_grows text b n part = (part.0, part.3)
+pub some_grows : (text b n : List ℕ) → WritesSome text b n → Grows b n
+some_grows text b n some = (take some.0 text, some.2)
 
 -- the page was written
 pub page_written :
@@ -61,15 +63,12 @@ page_written text page held h1 h2 written more =
 -- or cut
 pub page_cut :
     (text page : List ℕ) (held h1 h2 : Option (List ℕ)) → Tells held h1 (Moves text [] page)
-    → Tells h1 h2 (AppendsPart page) → Tells held h2 (AppendsPart text)
+    → Tells h1 h2 (WritesSome page) → Tells held h2 (WritesSome text)
 page_cut text page held h1 h2 written more =
-    Tells_more held h1 h2 (Moves text [] page) (AppendsPart page) (AppendsPart text)
-    (λ b m n moves cut. (
-      moves.0 ++ cut.0,
-      cut.1,
-      moves.1 ∙ ap (λ xs. moves.0 ++ xs) cut.2 ∙ sym (append_assoc moves.0 cut.0 cut.1),
-      cut.3 ∙ ap (λ xs. xs ++ cut.0) moves.2 ∙ append_assoc b moves.0 cut.0,
-    )) written more
+    Tells_more held h1 h2 (Moves text [] page) (WritesSome page) (WritesSome text)
+    (λ b m n moves some. subst (λ xs. WritesSome xs b n) (append-nil text)
+    (cut_then text [] [] page b m n moves
+    (subst (λ xs. WritesSome xs m n) (sym (append-nil page)) some))) written more
 
 -- more went over the page
 pub page_more :
@@ -83,10 +82,10 @@ page_more text more page page' held h1 h2 written over =
 pub page_more_cut :
     (text more page page' : List ℕ) (held h1 h2 : Option (List ℕ))
     → Tells held h1 (Moves text [] page) → Passes false more page page' h1 h2
-    → Tells held h2 (AppendsPart (text ++ more))
+    → Tells held h2 (WritesSome (text ++ more))
 page_more_cut text more page page' held h1 h2 written over =
-    Tells_more held h1 h2 (Moves text [] page) (AppendsPart (page ++ more))
-    (AppendsPart (text ++ more)) (cut_then text more [] page) written over
+    Tells_more held h1 h2 (Moves text [] page) (WritesSome (page ++ more))
+    (WritesSome (text ++ more)) (cut_then text more [] page) written over
 
 -- all was written
 pub all_written :
@@ -220,6 +219,22 @@ pub carried_is :
 carried_is m start base c Begin = refl
 carried_is m start base c (More inputs x) = refl
 
+-- ---- the next line is read ahead, or nothing is gathered
+
+pub ready_as :
+    (d d1 : Desk) (page : List ℕ) → d1 ≡ record d { page = page }
+    → ((has_feed d.lines.held ≡ true) × (page ≡ d.page)) ⊎ (page ≡ [])
+    → (has_feed d1.lines.held ≡ true) ⊎ (d1.page ≡ [])
+ready_as d d1 page same ready =
+    subst (λ (k : Desk). (has_feed k.lines.held ≡ true) ⊎ (k.page ≡ [])) (sym same)
+    (split_ready ready)
+  where
+    split_ready :
+        ((has_feed d.lines.held ≡ true) × (page ≡ d.page)) ⊎ (page ≡ [])
+        → (has_feed d.lines.held ≡ true) ⊎ (page ≡ [])
+    split_ready (inl kept) = inl kept.0
+    split_ready (inr none) = inr none
+
 -- ---- the end
 
 module _ {S E : Type 0} (m : Meaning S E) (start : Came S) (before : Told) where
@@ -305,7 +320,7 @@ module _ {S E : Type 0} (m : Meaning S E) (start : Came S) (before : Told) where
               page_cut (text_of m start closes.inputs) page before.held h1 h2 closes.written stop.2;
           carried = closes.carried;
         },
-        near_later l h1 h2 c n (AppendsPart page) (part_grows page) stop.2
+        near_later l h1 h2 c n (WritesSome page) (some_grows page) stop.2
             (some_near page (IsNearUnwritten m start before (told l h1 c n)) stop.1 closes.near),
       )
 
@@ -372,12 +387,12 @@ module _ {S E : Type 0} (m : Meaning S E) (start : Came S) (before : Told) where
     pub unsent_ends :
         (c1 : Option Carried) (n1 : ℕ) (h1 : Option (List ℕ)) (page : List ℕ) → page ≡ d.page
         → page ≢ [] → Tells c0 c1 (λ c n. n ≡ bound_more binds c)
-        → Tells h h1 (AppendsPart (page ++ []))
+        → Tells h h1 (WritesSome (page ++ []))
         → Ended m start before (told l h1 c1 n1) end.WriteFault
     unsent_ends c1 n1 h1 page same some bound cut =
         let came = came_of m start inputs in
-        let part : Tells h h1 (AppendsPart d.page) =
-        subst (λ xs. Tells h h1 (AppendsPart xs)) (append-nil page ∙ same) cut in
+        let part : Tells h h1 (WritesSome d.page) =
+        subst (λ xs. Tells h h1 (WritesSome xs)) (append-nil page ∙ same) cut in
         let unsent : Tells c0 c1 HaveSameSends =
         Tells_as c0 c1 (λ c n. n ≡ bound_more binds c) HaveSameSends
         (λ c n e. ap (λ (x : Carried). x.attempted) e) bound in (
@@ -408,7 +423,7 @@ module _ {S E : Type 0} (m : Meaning S E) (start : Came S) (before : Told) where
                 (part_unsent before.slots came (heard_of m start before.slots c inputs))))
                 waits.heard bound;
           },
-          near_later l h h1 c1 n1 (AppendsPart d.page) (part_grows d.page) part
+          near_later l h h1 c1 n1 (WritesSome d.page) (some_grows d.page) part
               (near_unsent l h c0 c1 n0 n1 unsent
               (some_near d.page (IsNearUnwritten m start before (told l h c0 n0))
               (λ none. some (same ∙ none)) waits.at.near)),
@@ -462,7 +477,11 @@ module _ {S E : Type 0} (m : Meaning S E) (start : Came S) (before : Told) where
                 waits.at.written over);
             near = near_carried c1 c2 h2 n2 page one two over ready waits.at.near;
           };
-          read = record { bytes = waits.read.bytes; ahead = waits.read.ahead };
+          read = record {
+            bytes = waits.read.bytes;
+            ahead = waits.read.ahead;
+            feeds = waits.read.feeds;
+          };
           carried =
               Tells_more before.carried c0 c2
               (λ c n. n ≡ heard_of m start before.slots c inputs)
@@ -588,7 +607,7 @@ module _ {S E : Type 0} (m : Meaning S E) (start : Came S) (before : Told) where
                 (λ input rest. (tail : List ℕ) × IsRead m start (More inputs x) input tail)
                 (λ b k r. (d.lines.held ++ k, r)) has.read;
             written =
-                subst (λ xs. Tells before.held h2 (AppendsPart xs))
+                subst (λ xs. Tells before.held h2 (WritesSome xs))
                 (sym (ap (λ (k : Came S). text_of m start inputs ++ k.text) is))
                 (page_more_cut (text_of m start inputs) cut.came.text d.page page before.held h1
                 h2 has.at.written cut.over);
@@ -602,8 +621,8 @@ module _ {S E : Type 0} (m : Meaning S E) (start : Came S) (before : Told) where
                 (part_more before.slots (came_of m start (More inputs x))
                 (heard_of m start before.slots b (More inputs x)))) has.heard;
           },
-          near_later l h1 h2 c n (AppendsPart (d.page ++ cut.came.text))
-              (part_grows (d.page ++ cut.came.text)) cut.over has.fresh,
+          near_later l h1 h2 c n (WritesSome (d.page ++ cut.came.text))
+              (some_grows (d.page ++ cut.came.text)) cut.over has.fresh,
         )
 
     goes_waits :
@@ -633,7 +652,7 @@ module _ {S E : Type 0} (m : Meaning S E) (start : Came S) (before : Told) where
                 inr (near_later l h1 h2 c n (Moves did.text d.page page)
                 (moves_grow did.text d.page page) did.over has.fresh);
           };
-          read = record { bytes = has.read; ahead = has.ahead };
+          read = record { bytes = has.read; ahead = has.ahead; feeds = has.feeds };
           to_bind = sym (ap (λ (k : Came S). k.binds) is);
           to_send = sym (ap (λ (k : Came S). k.letters) is);
           heard = has.heard;
@@ -743,6 +762,7 @@ module _ {S E : Type 0} (m : Meaning S E) (start : Came S) (before : Told) where
                 ),
               )) has.read;
           ahead = has.ahead;
+          feeds = has.feeds;
           heard =
               Tells_as before.carried c (λ b k. k ≡ carried_of m start before.slots b inputs)
               (λ b k. k ≡ heard_of m start before.slots b (More inputs (Entry e)))
@@ -878,11 +898,11 @@ module _ {S E : Type 0} (m : Meaning S E) (start : Came S) (before : Told) where
 
     -- the page could not be written
     pub unwritten_ends :
-        (h1 : Option (List ℕ)) → d.page ≢ [] → Tells h0 h1 (AppendsPart (d.page ++ []))
+        (h1 : Option (List ℕ)) → d.page ≢ [] → Tells h0 h1 (WritesSome (d.page ++ []))
         → Ended m start before (told l h1 c n) end.WriteFault
     unwritten_ends h1 some cut =
-        let part : Tells h0 h1 (AppendsPart d.page) =
-        subst (λ xs. Tells h0 h1 (AppendsPart xs)) (append-nil d.page) cut in (
+        let part : Tells h0 h1 (WritesSome d.page) =
+        subst (λ xs. Tells h0 h1 (WritesSome xs)) (append-nil d.page) cut in (
           record {
             inputs = inputs;
             taken = stands.at.taken;
@@ -891,7 +911,7 @@ module _ {S E : Type 0} (m : Meaning S E) (start : Came S) (before : Told) where
                 page_cut (text_of m start inputs) d.page before.held h0 h1 stands.at.written part;
             carried = stands_part;
           },
-          near_later l h0 h1 c n (AppendsPart d.page) (part_grows d.page) part
+          near_later l h0 h1 c n (WritesSome d.page) (some_grows d.page) part
               (some_near d.page (IsNearUnwritten m start before (told l h0 c n)) some
               stands.at.near),
         )
@@ -962,23 +982,13 @@ module _ {S E : Type 0} (m : Meaning S E) (start : Came S) (before : Told) where
                 stands.at.written over);
             near = near_ready page h1 over ready stands.at.near;
           };
-          read = record { bytes = stands.read.bytes; ahead = stands.read.ahead };
+          read = record {
+            bytes = stands.read.bytes;
+            ahead = stands.read.ahead;
+            feeds = stands.read.feeds;
+          };
           carried = stands.carried;
         })
-
-  ready_as :
-      (d d1 : Desk) (page : List ℕ) → d1 ≡ record d { page = page }
-      → ((has_feed d.lines.held ≡ true) × (page ≡ d.page)) ⊎ (page ≡ [])
-      → (has_feed d1.lines.held ≡ true) ⊎ (d1.page ≡ [])
-  ready_as d d1 page same ready =
-      subst (λ (k : Desk). (has_feed k.lines.held ≡ true) ⊎ (k.page ≡ [])) (sym same)
-      (split_ready ready)
-    where
-      split_ready :
-          ((has_feed d.lines.held ≡ true) × (page ≡ d.page)) ⊎ (page ≡ [])
-          → (has_feed d.lines.held ≡ true) ⊎ (page ≡ [])
-      split_ready (inl kept) = inl kept.0
-      split_ready (inr none) = inr none
 
   -- it stands, and is ready to read
   pub record ReadyStands (now : Told) (inputs : Inputs E) (s : S) (d : Desk) : Type 0 where
@@ -999,9 +1009,32 @@ module _ {S E : Type 0} (m : Meaning S E) (start : Came S) (before : Told) where
 
   -- ---- the next line is read, once all is ready
 
+  -- the input goes on behind its lines
+  read_past :
+      (inputs : Inputs E) (input tail : List ℕ) → IsRead m start inputs input tail
+      → past_lines (lines_of inputs) input ≡ tail
+  read_past Begin input tail read = read
+  read_past (More inputs (Entry e)) input tail read =
+      let one_more : lines_of inputs + 1 ≡ suc (lines_of inputs) = omega arith in
+      ap (λ k. past_lines k input) one_more
+      ∙ ap past_line (read_past inputs input read.0 read.1) ∙ sym read.2.2
+  read_past (More inputs (Datagram bytes)) input tail read =
+      read_past inputs input read.0 read.1 ∙ sym read.2
+  read_past (More inputs Quiet) input tail read =
+      read_past inputs input read.0 read.1 ∙ sym read.2
+  read_past (More inputs Tick) input tail read =
+      read_past inputs input read.0 read.1 ∙ sym read.2
+
   none_left : (held n : List ℕ) → held ++ n ≡ [] → n ≡ []
   none_left [] n e = e
   none_left (b ∷ held) n e = absurd (cc)
+
+  -- where the input had ended, that is the answer
+  still_going :
+      (ended : Bool) (answer : NextLine) → (ended ≡ true → answer ≡ next.End)
+      → (answer ≡ next.End → ⊥) → ended ≡ false
+  still_going true answer over none = absurd (none (over refl))
+  still_going false answer over none = refl
 
   -- behind the byte that makes a line too long
   near_long :
@@ -1057,24 +1090,63 @@ module _ {S E : Type 0} (m : Meaning S E) (start : Came S) (before : Told) where
     -- what is read now, of what was read before
     given :
         (answer : NextLine) (P : List ℕ → List ℕ → Type 0)
-        → Tells l l2
-        (λ b k. Gives answer limit (d.lines.held ++ b) lines.line (lines.held ++ k))
+        → Tells l l2 (λ b k. Gives answer limit (d.lines.held ++ b) lines k)
         → ((b i k : List ℕ) → IsRead m start inputs b (d.lines.held ++ i)
-        → Gives answer limit (d.lines.held ++ i) lines.line (lines.held ++ k) → P b k)
+        → Gives answer limit (d.lines.held ++ i) lines k → P b k)
         → Tells before.left l2 P
     given answer P gives join =
         Tells_more before.left l l2
         (λ input rest. IsRead m start inputs input (d.lines.held ++ rest))
-        (λ b k. Gives answer limit (d.lines.held ++ b) lines.line (lines.held ++ k)) P join
-        stands.read.bytes gives
+        (λ b k. Gives answer limit (d.lines.held ++ b) lines k) P join stands.read.bytes gives
+
+    -- the lines before had their line feeds, since the input had not ended
+    fed_before :
+        (answer : NextLine) (P : List ℕ → List ℕ → Type 0) → d.lines.ended ≡ false
+        → Tells l l2 (λ b k. Gives answer limit (d.lines.held ++ b) lines k)
+        → ((b i k : List ℕ) → IsRead m start inputs b (d.lines.held ++ i)
+        → AreFed (lines_of inputs) b → Gives answer limit (d.lines.held ++ i) lines k → P b k)
+        → Tells before.left l2 P
+    fed_before answer P goes_on gives join =
+        Tells_more before.left l l2
+        (λ input rest. IsRead m start inputs input (d.lines.held ++ rest)
+        × AreFed (lines_of inputs) input)
+        (λ b k. Gives answer limit (d.lines.held ++ b) lines k) P
+        (λ b i k is given. join b i k is.0 is.1 given)
+        (Tells_both before.left l
+        (λ input rest. IsRead m start inputs input (d.lines.held ++ rest))
+        (λ input rest. AreFed (lines_of inputs) input) stands.read.bytes
+        (stands.read.feeds.fed goes_on)) gives
+
+    -- the line had its line feed too, or the input has ended
+    line_fed :
+        d.lines.ended ≡ false
+        → Tells l l2 (λ b k. Gives next.Line limit (d.lines.held ++ b) lines k)
+        → Keeps next.Line limit lines → IsFed before.left l2 lines (lines_of inputs + 1)
+    line_fed goes_on gives keeps =
+        record {
+          fed = λ more.
+              fed_before next.Line (λ input rest. AreFed (lines_of inputs + 1) input) goes_on gives
+              (λ b i k is fed line. fed_more (lines_of inputs) b fed
+              (ap has_feed (read_past inputs b (d.lines.held ++ i) is) ∙ line.feed
+              ∙ ap not more));
+          over = λ ended. (
+            keeps.none ended,
+            given next.Line (λ input rest. rest ≡ []) gives
+                (λ b i k is line. none_left lines.held k
+                (line.rest
+                ∙ unfed_past (d.lines.held ++ i) (line.feed ∙ ap not ended))),
+          );
+        }
 
     -- a line
     pub line_read :
-        Tells l l2
-        (λ b k. Gives next.Line limit (d.lines.held ++ b) lines.line (lines.held ++ k))
-        → Keeps next.Line limit lines
+        (d.lines.ended ≡ false
+        → Tells l l2 (λ b k. Gives next.Line limit (d.lines.held ++ b) lines k))
+        → (d.lines.ended ≡ true → next.Line ≡ next.End) → Keeps next.Line limit lines
         → HasLine m start before (told l2 h c n) inputs s (record d { lines = lines })
-    line_read gives keeps =
+    line_read tells over keeps =
+        let goes_on = still_going d.lines.ended next.Line over (λ is. cc) in
+        let gives = tells goes_on in
         let read : Tells before.left l2
         (λ input rest. (tail : List ℕ) × IsRead m start inputs input tail × (0 < length tail)
         × (lines.line ≡ line_of tail) × (lines.held ++ rest ≡ past_line tail)) =
@@ -1121,22 +1193,57 @@ module _ {S E : Type 0} (m : Meaning S E) (start : Came S) (before : Told) where
           short = keeps.fits;
           read = read;
           ahead = keeps.near;
+          feeds = line_fed goes_on gives keeps;
           carried = stands.carried;
         }
+
+    -- the input has ended, now or before
+    all_read :
+        (t : Bool) → d.lines.ended ≡ t
+        → (d.lines.ended ≡ false
+        → Tells l l2 (λ b k. Gives next.End limit (d.lines.held ++ b) lines k))
+        → (d.lines.ended ≡ true → l2 ≡ l)
+        → Tells before.left l2 (λ input rest. IsRead m start inputs input [] × (rest ≡ []))
+    all_read false is gives same =
+        given next.End (λ input rest. IsRead m start inputs input [] × (rest ≡ [])) (gives is)
+        (λ b i k read ended. (
+          subst (IsRead m start inputs b) ended.0 read,
+          none_left lines.held k ended.1,
+        ))
+    all_read true is gives same =
+        let over = stands.read.feeds.over is in
+        subst
+        (λ (k : Option (List ℕ)). Tells before.left k
+        (λ input rest. IsRead m start inputs input [] × (rest ≡ []))) (sym (same is))
+        (Tells_as before.left l
+        (λ input rest. IsRead m start inputs input (d.lines.held ++ rest) × (rest ≡ []))
+        (λ input rest. IsRead m start inputs input [] × (rest ≡ []))
+        (λ b k both. (
+          subst (IsRead m start inputs b)
+              (ap (λ xs. xs ++ k) over.0 ∙ both.1) both.0,
+          both.1,
+        ))
+        (Tells_both before.left l
+        (λ input rest. IsRead m start inputs input (d.lines.held ++ rest))
+        (λ input rest. rest ≡ []) stands.read.bytes over.1))
 
     -- the input ended where it may
     pub end_closes :
         optional ≡ true
-        → Tells l l2
-        (λ b k. Gives next.End limit (d.lines.held ++ b) lines.line (lines.held ++ k))
+        → (d.lines.ended ≡ false
+        → Tells l l2 (λ b k. Gives next.End limit (d.lines.held ++ b) lines k))
+        → (d.lines.ended ≡ true → l2 ≡ l)
         → Closes m start before (told l2 h c n) d.page end.Done
-    end_closes may gives =
+    end_closes may gives same =
+        let read = all_read d.lines.ended refl gives same in
         record {
           inputs = inputs;
           taken = stands.at.taken;
           read =
-              given next.End (λ input rest. (tail : List ℕ) × IsRead m start inputs input tail)
-              gives (λ b i k is ended. (d.lines.held ++ i, is));
+              Tells_as before.left l2
+              (λ input rest. IsRead m start inputs input [] × (rest ≡ []))
+              (λ input rest. (tail : List ℕ) × IsRead m start inputs input tail)
+              (λ b k is. ([], is.0)) read;
           written = stands.at.written;
           near = near_kept ready stands.at.near;
           carried = given_part;
@@ -1145,15 +1252,16 @@ module _ {S E : Type 0} (m : Meaning S E) (start : Came S) (before : Told) where
             taken = stands.at.taken;
             over = subst MayEnd (sym wanted) may;
             read =
-                given next.End
+                Tells_as before.left l2
+                (λ input rest. IsRead m start inputs input [] × (rest ≡ []))
                 (λ input rest. (tail : List ℕ) × IsRead m start inputs input tail
-                × IsEnd (m.want (state_of m start inputs)) tail × IsNear tail rest) gives
-                (λ b i k is ended. (
+                × IsEnd (m.want (state_of m start inputs)) tail × IsNear tail rest)
+                (λ b k is. (
                   [],
-                  subst (IsRead m start inputs b) ended.0 is,
+                  is.0,
                   subst (λ (w : Want). IsEnd w []) (sym wanted) refl,
-                  ([], sym (none_left lines.held k ended.1), omega arith),
-                ));
+                  ([], sym is.1, omega arith),
+                )) read;
             written = all;
             carried = stands.carried;
           };
@@ -1196,33 +1304,36 @@ module _ {S E : Type 0} (m : Meaning S E) (start : Came S) (before : Told) where
     -- it ended where it may not
     pub missing_closes :
         (place : ℕ) → place ≡ d.place + 1 → optional ≡ false
-        → Tells l l2
-        (λ b k. Gives next.End limit (d.lines.held ++ b) lines.line (lines.held ++ k))
+        → (d.lines.ended ≡ false
+        → Tells l l2 (λ b k. Gives next.End limit (d.lines.held ++ b) lines k))
+        → (d.lines.ended ≡ true → l2 ≡ l)
         → Closes m start before (told l2 h c n) d.page (end.BadInput place)
-    missing_closes place is must gives =
+    missing_closes place is must gives same =
         refused_closes place is
-        (given next.End
+        (Tells_as before.left l2
+        (λ input rest. IsRead m start inputs input [] × (rest ≡ []))
         (λ input rest. (tail : List ℕ) × IsRead m start inputs input tail
         × IsRefused m (state_of m start inputs) limit optional tail
-        × IsNearRefused limit tail rest) gives
-        (λ b i k is ended. (
+        × IsNearRefused limit tail rest)
+        (λ b k is. (
           [],
-          subst (IsRead m start inputs b) ended.0 is,
+          is.0,
           inl (refl, must),
           (
-            (λ short. ([], sym (none_left lines.held k ended.1), omega arith)),
+            (λ short. ([], sym is.1, omega arith)),
             (λ long. absurd (omega arith)),
           ),
-        )))
+        )) (all_read d.lines.ended refl gives same))
 
     -- the line is too long
     pub long_closes :
         (place : ℕ) → place ≡ d.place + 1
-        → Tells l l2
-        (λ b k. Gives next.TooLong limit (d.lines.held ++ b) lines.line (lines.held ++ k))
-        → Keeps next.TooLong limit lines
+        → (d.lines.ended ≡ false
+        → Tells l l2 (λ b k. Gives next.TooLong limit (d.lines.held ++ b) lines k))
+        → (d.lines.ended ≡ true → next.TooLong ≡ next.End) → Keeps next.TooLong limit lines
         → Closes m start before (told l2 h c n) d.page (end.BadInput place)
-    long_closes place is gives keeps =
+    long_closes place is tells over keeps =
+        let gives = tells (still_going d.lines.ended next.TooLong over (λ is. cc)) in
         refused_closes place is
         (given next.TooLong
         (λ input rest. (tail : List ℕ) × IsRead m start inputs input tail
@@ -1241,11 +1352,13 @@ module _ {S E : Type 0} (m : Meaning S E) (start : Came S) (before : Told) where
 
     -- the source failed
     pub part_closes :
-        Tells l l2
-        (λ b k. Gives next.Failed limit (d.lines.held ++ b) lines.line (lines.held ++ k))
-        → Keeps next.Failed limit lines
+        (d.lines.ended ≡ false
+        → Tells l l2 (λ b k. Gives next.Failed limit (d.lines.held ++ b) lines k))
+        → (d.lines.ended ≡ true → next.Failed ≡ next.End) → Keeps next.Failed limit lines
         → Closes m start before (told l2 h c n) d.page end.ReadFault
-    part_closes gives keeps =
+    part_closes tells over keeps =
+        let goes_on = still_going d.lines.ended next.Failed over (λ is. cc) in
+        let gives = tells goes_on in
         record {
           inputs = inputs;
           taken = stands.at.taken;
@@ -1268,9 +1381,12 @@ module _ {S E : Type 0} (m : Meaning S E) (start : Came S) (before : Told) where
                 (λ b i k is part. (
                   lines.line,
                   subst (IsRead m start inputs b)
-                      (part.rest ∙ ap (λ xs. lines.line ++ (xs ++ k)) keeps.0) is,
+                      (part.rest ∙ ap (λ xs. lines.line ++ (xs ++ k)) keeps.none) is,
                   part.part,
                 ));
+            fed =
+                fed_before next.Failed (λ input rest. AreFed (lines_of inputs) input) goes_on gives
+                (λ b i k is fed part. fed);
             written = all;
             carried = stands.carried;
           };
@@ -1320,6 +1436,7 @@ module _ {S E : Type 0} (m : Meaning S E) (start : Came S) (before : Told) where
             (λ input rest. IsReadOn m start inputs Tick input (d.lines.held ++ rest))
             (λ b k is. (d.lines.held ++ k, is, refl)) stands.read.bytes;
         ahead = stands.read.ahead;
+        feeds = stands.read.feeds;
         heard =
             Tells_as before.carried c (λ b k. k ≡ carried_of m start before.slots b inputs)
             (λ b k. k ≡ heard_of m start before.slots b (More inputs Tick))
@@ -1362,11 +1479,12 @@ module _ {S E : Type 0} (m : Meaning S E) (start : Came S) (before : Told) where
     -- a turn was heard
     pub turn_taken :
         (x : Input E) (c2 : Option Carried) (n2 : ℕ) → n2 ≡ n
+        → lines_of inputs ≡ lines_of (More inputs x)
         → IsWanted m (state_of m start inputs) x
         → ((b k : List ℕ) → k ≡ b → IsReadBy m (state_of m start inputs) x b k)
         → Tells c c2 (λ b k. k ≡ hears before.slots (want.Turn slot room) x b)
         → HasTaken m start before (told l h c2 n2) inputs s d x
-    turn_taken x c2 n2 kept wants reads heard =
+    turn_taken x c2 n2 kept same_lines wants reads heard =
         let near : IsNearUnwritten m start before (told l h c2 n2) =
         record {
           front = inputs;
@@ -1412,6 +1530,7 @@ module _ {S E : Type 0} (m : Meaning S E) (start : Came S) (before : Told) where
                 reads (d.lines.held ++ k) (d.lines.held ++ k) refl,
               )) stands.read.bytes;
           ahead = stands.read.ahead;
+          feeds = subst (IsFed before.left l d.lines) same_lines stands.read.feeds;
           heard =
               Tells_more before.carried c c2
               (λ b k. k ≡ carried_of m start before.slots b inputs)
@@ -1427,7 +1546,7 @@ module _ {S E : Type 0} (m : Meaning S E) (start : Came S) (before : Told) where
         → length bytes ≤ room → Tells c c2 (λ b k. k ≡ with_turn b (wire.Datagram at bytes))
         → HasTaken m start before (told l h c2 n2) inputs s d (Datagram bytes)
     datagram_taken bytes c2 n2 at kept is few heard =
-        turn_taken (Datagram bytes) c2 n2 kept
+        turn_taken (Datagram bytes) c2 n2 kept refl
         (subst (λ (w : Want). IsTurnOf w (length bytes)) (sym turned) few) (λ b k e. e)
         (subst (λ k. Tells c c2 (λ b i. i ≡ with_turn b (wire.Datagram k bytes))) is heard)
 
@@ -1436,7 +1555,7 @@ module _ {S E : Type 0} (m : Meaning S E) (start : Came S) (before : Told) where
         → Tells c c2 (λ b k. k ≡ with_turn b (wire.Pause at))
         → HasTaken m start before (told l h c2 n2) inputs s d Quiet
     pause_taken c2 n2 at kept is heard =
-        turn_taken Quiet c2 n2 kept is_turn (λ b k e. e)
+        turn_taken Quiet c2 n2 kept refl is_turn (λ b k e. e)
         (subst (λ k. Tells c c2 (λ b i. i ≡ with_turn b (wire.Pause k))) is heard)
 
 -- what was heard lies in the buffer
@@ -1497,7 +1616,7 @@ pub begin_waits :
     {S E : Type 0} (m : Meaning S E) (l h : Option (List ℕ)) (c : Option Carried) (n : ℕ) (s : S)
     (binds : List ℕ) (letters : List Letter) (d : Desk)
     → d ≡ record {
-      lines = record { held = []; line = [] };
+      lines = record { held = []; line = []; ended = false };
       page = [];
       place = 0;
       base = 0;
@@ -1518,7 +1637,15 @@ begin_waits {S} {E} m l h c n s binds letters d is =
         written = Tells_none h (Moves [] [] []) (λ b. ([], refl, sym (append-nil b)));
         near = inl refl;
       };
-      read = record { bytes = Tells_none l (λ input rest. input ≡ rest) (λ b. refl); ahead = omega arith };
+      read = record {
+        bytes = Tells_none l (λ input rest. input ≡ rest) (λ b. refl);
+        ahead = omega arith;
+        feeds = record {
+          fed = λ _. Tells_none l (λ input rest. AreFed 0 input)
+              (λ b i few. absurd (omega (arith, few)));
+          over = λ is. absurd (cc);
+        };
+      };
       to_bind = refl;
       to_send = refl;
       heard = Tells_none c (λ b k. k ≡ b) (λ b. refl);
@@ -1539,6 +1666,13 @@ cause_wider end.Done r0 r1 r2 w0 w1 w2 x0 x1 x2 r w x cause = tt
 cause_wider end.OutOfMemory r0 r1 r2 w0 w1 w2 x0 x1 x2 r w x cause = tt
 cause_wider (end.BadInput line) r0 r1 r2 w0 w1 w2 x0 x1 x2 r w x cause = tt
 cause_wider (end.TooMuch line) r0 r1 r2 w0 w1 w2 x0 x1 x2 r w x cause = tt
+
+pub causes_later :
+    (o : Option End) (r0 r1 w0 w1 w2 x0 x1 : ℕ) → w0 ≤ w1
+    → IfSome o (λ e. HasCause e r0 r1 w1 w2 x0 x1) → IfSome o (λ e. HasCause e r0 r1 w0 w2 x0 x1)
+causes_later None r0 r1 w0 w1 w2 x0 x1 w cause = cause
+causes_later (Some e) r0 r1 w0 w1 w2 x0 x1 w cause =
+    cause_wider e r0 r0 r1 w0 w1 w2 x0 x0 x1 (omega arith) w (omega arith) cause
 
 pub causes_wider :
     (o : Option End) (w0 w1 w2 x0 x1 x2 : ℕ) → w0 ≤ w1 → x0 ≤ x1

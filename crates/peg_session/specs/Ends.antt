@@ -1,7 +1,7 @@
 -- What holds where a session ends.
 --     Told      what the source, the sink and the wire tell, and how many ports are bound
 --     IsRead m start inputs input tail      the input begins with their lines
---     IsDone, IsBadAt, IsTooMuchAt, IsUnread, IsUnheard, IsCut      the ends
+--     IsDone, IsBadAt, IsTooMuchAt, IsUnread, IsUnwritten, IsUnheard, IsCut      the ends
 --     IsNearUnwritten      how far the bytes that were taken go where the sink failed
 --     Ended m start before now end      all that holds at this end
 --     HasCause end ..      a fault has its cause
@@ -9,9 +9,9 @@
 --     IsComplete end ..      where nothing fails it is done, or there was no memory
 use Rattle.std.specs.Prelude.{◌≡◌, ◌≢◌, ◌⊎◌, ◌≤◌, ◌<◌, ◌+◌, ℕ, Bool, true, false, Option, List}
 use Rattle.std.specs.Prelude.{[], ◌++◌, length, drop}
-use Rattle.peg_io.specs.Outside.{Tells, Appends, Rose}
+use Rattle.peg_io.specs.Outside.{Tells, Appends, WritesSome, Rose}
 use Rattle.peg_meaning.specs.Wire.{Carried, Turn, Sent}
-use Rattle.peg_io.specs.Lines.{line_of, past_line, HasNoFeed}
+use Rattle.peg_io.specs.Lines.{line_of, past_line, HasNoFeed, AreFed}
 use Rattle.peg_session.specs.Pages.{AppendsPart, AppendsMore}
 use Rattle.peg_meaning.specs.Session.{Meaning, Came, Past, Input, Entry, Datagram, Quiet, Tick, Inputs}
 use Rattle.peg_meaning.specs.Session.{Begin, More, came_of, state_of, text_of, lines_of}
@@ -156,7 +156,7 @@ module _ {S E : Type 0} (m : Meaning S E) (start : Came S) (before now : Told) w
     pub carried : Tells before.carried now.carried
         (λ c n. n ≡ heard_of m start before.slots c (More inputs x))
 
-  -- the source failed within a line
+  -- the source failed within a line, and each line before it had its line feed
   pub record IsUnread : Type 0 where
     pub inputs : Inputs E
     pub taken : IsTaken m start inputs
@@ -166,6 +166,7 @@ module _ {S E : Type 0} (m : Meaning S E) (start : Came S) (before now : Told) w
     pub read : Tells before.left now.left
         (λ input rest. (part : List ℕ) × IsRead m start inputs input (part ++ rest)
         × HasNoFeed part)
+    pub fed : Tells before.left now.left (λ input rest. AreFed (lines_of inputs) input)
     pub written : IsWritten inputs
     pub carried : IsCarried inputs
 
@@ -181,7 +182,17 @@ module _ {S E : Type 0} (m : Meaning S E) (start : Came S) (before now : Told) w
         (λ c n. BindsSome (came_of m start inputs).binds
         (heard_of m start before.slots c inputs) n))
 
-  -- a first part of all was written, bound and sent
+  -- the sink failed: fewer than all bytes of the text were written
+  pub record IsUnwritten : Type 0 where
+    pub inputs : Inputs E
+    pub taken : IsTaken m start inputs
+    pub read : Tells before.left now.left
+        (λ input rest. (tail : List ℕ) × IsRead m start inputs input tail)
+    pub written : Tells before.held now.held (WritesSome (text_of m start inputs))
+    pub carried : Tells before.carried now.carried
+        (λ c n. IsPart (carried_of m start before.slots c inputs) n)
+
+  -- a first part of all was written, bound and sent, or all of it
   pub record IsCut : Type 0 where
     pub inputs : Inputs E
     pub taken : IsTaken m start inputs
@@ -207,7 +218,7 @@ module _ {S E : Type 0} (m : Meaning S E) (start : Came S) (before now : Told) w
   Ended end.Done = IsDone
   Ended end.OutOfMemory = IsCut
   Ended end.ReadFault = IsUnread
-  Ended end.WriteFault = IsCut × IsNearUnwritten
+  Ended end.WriteFault = IsUnwritten × IsNearUnwritten
   Ended end.WireFault = IsUnheard
   Ended (end.BadInput line) = IsBadAt line
   Ended (end.TooMuch line) = IsTooMuchAt line

@@ -2,9 +2,9 @@
 --     Moves text page page' before now      the text went onto the page, and what didn't fit was
 --         written
 --     Passes all text page page' held held'      the same of what a sink told; where all is false,
---         some first part of the page and the text was written
+--         fewer than all bytes of the page and the text were written
 use Rattle.std.specs.Prelude.{◌≡◌, ℕ, Bool, true, false, Option, List, ◌++◌}
-use Rattle.peg_io.specs.Outside.{Tells}
+use Rattle.peg_io.specs.Outside.{Tells, WritesSome}
 
 -- some first part of the text was appended
 abbrev pub AppendsPart : List ℕ → List ℕ → List ℕ → Type 0
@@ -22,4 +22,4 @@ Moves text page page' before now =
 abbrev pub Passes :
     Bool → List ℕ → List ℕ → List ℕ → Option (List ℕ) → Option (List ℕ) → Type 0
 Passes true text page page' held held' = Tells held held' (Moves text page page')
-Passes false text page page' held held' = Tells held held' (AppendsPart (page ++ text))
+Passes false text page page' held held' = Tells held held' (WritesSome (page ++ text))

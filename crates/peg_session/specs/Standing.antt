@@ -1,19 +1,21 @@
 -- How a session stands between two steps. `before` is what was told when the call began, and `now`
 -- what is told now.
+--     IsFed      each line had its line feed, or the input has ended
 --     IsAt      what was taken, where it stands, and what is written or lies on the page
 --     Stands      between two steps
 --     Waits      after a step, before its ports are bound and its datagrams sent
 --     Steps      after a step: it stands again, or it ended
 --     Stops      all on the page was written and the end is this, or the sink failed
 --     IsMoored      what is known of the ports whatever is told
-use Rattle.std.specs.Prelude.{◌≡◌, ◌≢◌, ◌⊎◌, ◌≤◌, ◌<◌, ◌+◌, ◌^◌, ℕ, Bool, Option, Some, None}
+use Rattle.std.specs.Prelude.{◌≡◌, ◌≢◌, ◌⊎◌, ◌≤◌, ◌<◌, ◌+◌, ◌^◌, ℕ, Bool, true, false}
+use Rattle.std.specs.Prelude.{Option, Some, None}
 use Rattle.std.specs.Prelude.{List, [], ◌++◌, length}
-use Rattle.peg_io.specs.Outside.{Tells, Appends}
-use Rattle.peg_session.specs.Pages.{Moves, AppendsPart}
+use Rattle.peg_io.specs.Outside.{Tells, Appends, WritesSome}
+use Rattle.peg_session.specs.Pages.{Moves}
 use Rattle.peg_meaning.specs.Session.{Meaning, Came, Letter, Inputs, came_of, state_of, text_of}
 use Rattle.peg_meaning.specs.Session.{lines_of, heard_of, carried_of}
 use Rattle.peg_meaning.specs.Session.{Input, More}
-use Rattle.peg_io.specs.Lines.{line_of, past_line}
+use Rattle.peg_io.specs.Lines.{line_of, past_line, AreFed, ReadAhead}
 use Rattle.peg_session.specs.Ends.{Told, IsRead, IsCarried, IsNearUnwritten, Ended, IsPart}
 use Rattle.peg_meaning.specs.Session.{IsTaken}
 use Rattle.peg_session.specs.Ends.{IsReadBy}
@@ -32,6 +34,12 @@ IsReadOn m start inputs x input tail =
     (mid : List ℕ) × IsRead m start inputs input mid
     × IsReadBy m (state_of m start inputs) x mid tail
 
+-- each of so many lines had its line feed, unless the input has ended: then nothing is left
+pub record IsFed (left left' : Option (List ℕ)) (lines : ReadAhead) (count : ℕ) : Type 0 where
+  pub fed : lines.ended ≡ false → Tells left left' (λ input rest. AreFed count input)
+  pub over : lines.ended ≡ true
+      → (lines.held ≡ []) × Tells left left' (λ input rest. rest ≡ [])
+
 module _ {S E : Type 0} (m : Meaning S E) (start : Came S) (before now : Told)
     (inputs : Inputs E) (s : S) (d : Desk) where
   pub record IsAt : Type 0 where
@@ -47,6 +55,7 @@ module _ {S E : Type 0} (m : Meaning S E) (start : Came S) (before now : Told)
     pub bytes : Tells before.left now.left
         (λ input rest. IsRead m start inputs input (d.lines.held ++ rest))
     pub ahead : length d.lines.held ≤ 4095
+    pub feeds : IsFed before.left now.left d.lines (lines_of inputs)
 
   pub record Stands : Type 0 where
     pub at : IsAt
@@ -73,6 +82,7 @@ module _ {S E : Type 0} (m : Meaning S E) (start : Came S) (before now : Told)
         (λ input rest. (tail : List ℕ) × IsRead m start inputs input tail × (0 < length tail)
         × (d.lines.line ≡ line_of tail) × (d.lines.held ++ rest ≡ past_line tail))
     pub ahead : length d.lines.held ≤ 4095
+    pub feeds : IsFed before.left now.left d.lines (lines_of inputs + 1)
     pub carried : IsCarried m start before now inputs
 
   -- an input was taken, and not yet handed over
@@ -83,6 +93,7 @@ module _ {S E : Type 0} (m : Meaning S E) (start : Came S) (before now : Told)
     pub read : Tells before.left now.left
         (λ input rest. IsReadOn m start inputs x input (d.lines.held ++ rest))
     pub ahead : length d.lines.held ≤ 4095
+    pub feeds : IsFed before.left now.left d.lines (lines_of (More inputs x))
     pub heard : Tells before.carried now.carried
         (λ c n. n ≡ heard_of m start before.slots c (More inputs x))
 
@@ -95,7 +106,7 @@ Steps m start before now s d (Some e) = Ended m start before now e
 abbrev pub Stops : End → End → List ℕ → Option (List ℕ) → Option (List ℕ) → Type 0
 Stops wanted answer page held held' =
     ((answer ≡ wanted) × Tells held held' (Appends page))
-    ⊎ ((answer ≡ end.WriteFault) × (page ≢ []) × Tells held held' (AppendsPart page))
+    ⊎ ((answer ≡ end.WriteFault) × (page ≢ []) × Tells held held' (WritesSome page))
 
 -- the session is to end so, once the page is written; if the sink fails, these were taken
 pub record Closes {S E : Type 0} (m : Meaning S E) (start : Came S) (before now : Told)

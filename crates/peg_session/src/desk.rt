@@ -1,6 +1,6 @@
 // What the loop keeps beside its session, and how it carries out a step: it binds ports, sends
 // datagrams and writes text.
-ghost use Rattle.std.specs.Prelude.{◌≡◌, ◌≢◌, ◌⊎◌, ◌≤◌, ◌<◌, ◌+◌, ℕ, true, [], length};
+ghost use Rattle.std.specs.Prelude.{◌≡◌, ◌≢◌, ◌⊎◌, ◌≤◌, ◌<◌, ◌+◌, ℕ, true, false, [], length};
 ghost use Rattle.std.specs.Prelude.{IsNone, IfSome, MatchBool, Option, List};
 ghost use Rattle.std.specs.Bool.{OnTrue, OnFalse};
 ghost use Rattle.peg_io.specs.Outside.{Rose, Tells};
@@ -26,7 +26,7 @@ pub(crate) struct Desk {
 
 impl Desk {
     pub(crate) fn make() -> Desk
-        ensures { result ≡ record { lines = record { held = []; line = [] }; page = []; place = 0; base = 0; bound = 0 } }
+        ensures { result ≡ record { lines = record { held = []; line = []; ended = false }; page = []; place = 0; base = 0; bound = 0 } }
     {
         Desk {
             lines: Lines::make(),

@@ -1,7 +1,8 @@
 // The loop that carries out a session.
-ghost use Rattle.std.specs.Prelude.{◌≡◌, ◌≢◌, ◌≤◌, ◌<◌, ◌^◌, ℕ, [], length, IsNone, IfSome};
-ghost use Rattle.std.specs.Prelude.{Option, List};
+ghost use Rattle.std.specs.Prelude.{◌≡◌, ◌≢◌, ◌⊎◌, ◌≤◌, ◌<◌, ◌^◌, ℕ, true, [], length, IsNone};
+ghost use Rattle.std.specs.Prelude.{IfSome, Option, List};
 ghost use Rattle.peg_io.specs.Outside.{Tells};
+ghost use Rattle.peg_io.specs.Lines.{has_feed};
 ghost use Rattle.peg_meaning.specs.Session.{Came, Inputs, Input, begun, IsLineOf};
 ghost use Rattle.peg_session.specs.Took.{MayTake, Hands};
 ghost use Rattle.peg_session.specs.Ends.{Told, told, Ended, HasCause, IsAccepted, IsComplete};
@@ -45,6 +46,55 @@ fn take_line<T: Session, K: Sink, W: Wire>(
     settle(session, desk, stepped, sink, wire)
 }
 
+// Reads the next line and takes it.
+fn read_line<T: Session, S: Source, K: Sink, W: Wire>(
+    session: &mut T,
+    desk: &mut Desk,
+    limit: usize,
+    optional: bool,
+    source: &mut S,
+    sink: &mut K,
+    wire: &mut W,
+) -> Option<End>
+    requires holds { T.holds session.old }
+    requires fit { IsFit 0 (T.ports session.old) (T.rank session.old)
+        (W.slots wire.old) desk.old }
+    requires wanted { T.meaning.want (T.state session.old) ≡ Want.Line limit optional }
+    requires short { limit ≤ 4096 }
+    requires ready { (has_feed desk.old.lines.held ≡ true) ⊎ (desk.old.page ≡ []) }
+    ensures steps { (start : Came T.State) (before : Told) (inputs : Inputs T.Entry)
+        → Stands T.meaning start before
+        (told (S.left source.old) (K.held sink.old) (W.carried wire.old) (W.slots wire.old))
+        inputs (T.state session.old) desk.old
+        → Steps T.meaning start before
+        (told (S.left source.new) (K.held sink.new) (W.carried wire.new) (W.slots wire.new))
+        (T.state session.new) desk.new result }
+    ensures holds { IsNone result → T.holds session.new }
+    ensures fit { IsNone result → IsFit 0 (T.ports session.new) (T.rank session.new)
+        (W.slots wire.new) desk.new }
+    ensures rank { IsNone result → T.rank session.new < T.rank session.old }
+    ensures cause { IfSome result (λ e. HasCause e (S.faults source.old) (S.faults source.new)
+        (K.faults sink.old) (K.faults sink.new) (W.faults wire.old) (W.faults wire.new)) }
+    ensures later_source { S.faults source.old ≤ S.faults source.new }
+    ensures later { K.faults sink.old ≤ K.faults sink.new }
+    ensures later_wire { W.faults wire.old ≤ W.faults wire.new }
+    ensures later_slots { W.slots wire.old ≤ W.slots wire.new }
+{
+    match desk.lines.next(limit, source) {
+        NextLine::Line => take_line(session, desk, sink, wire),
+        NextLine::End if optional => Some(stop(desk, End::Done, sink)),
+        NextLine::Failed => Some(stop(desk, End::ReadFault, sink)),
+        NextLine::End => {
+            let line = desk.place + 1;
+            Some(stop(desk, End::BadInput { line }, sink))
+        }
+        NextLine::TooLong => {
+            let line = desk.place + 1;
+            Some(stop(desk, End::BadInput { line }, sink))
+        }
+    }
+}
+
 // Reads the next line and takes it. The source is asked only where nothing is gathered.
 fn line_step<T: Session, S: Source, K: Sink, W: Wire>(
     session: &mut T,
@@ -81,19 +131,7 @@ fn line_step<T: Session, S: Source, K: Sink, W: Wire>(
     if !make_ready(desk, sink) {
         return Some(End::WriteFault);
     }
-    match desk.lines.next(limit, source) {
-        NextLine::Line => take_line(session, desk, sink, wire),
-        NextLine::End if optional => Some(stop(desk, End::Done, sink)),
-        NextLine::Failed => Some(stop(desk, End::ReadFault, sink)),
-        NextLine::End => {
-            let line = desk.place + 1;
-            Some(stop(desk, End::BadInput { line }, sink))
-        }
-        NextLine::TooLong => {
-            let line = desk.place + 1;
-            Some(stop(desk, End::BadInput { line }, sink))
-        }
-    }
+    read_line(session, desk, limit, optional, source, sink, wire)
 }
 
 // Hands a turn to the session, or has it make a step of its own.

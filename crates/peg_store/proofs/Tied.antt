@@ -14,8 +14,8 @@ use Rattle.std.specs.Ordering.{is_eq, match_ordering}
 use Rattle.std.specs.declared.cmp.Ordering.{Ordering}
 use Rattle.std.specs.declared.cmp.Ordering.TheVariants.{Less, Equal, Greater}
 use Rattle.peg_pool.specs.Slots.{Slots, bytes_of, SetsOnly}
-use Rattle.peg_name.specs.declared.Content.{Content}
-use Rattle.peg_event.specs.declared.Stored.{Stored}
+use Rattle.peg_name.specs.declared.value.Content.{Content}
+use Rattle.peg_event.specs.declared.answers.Stored.{Stored}
 use Rattle.peg_store.specs.declared.Place.{Place}
 use Rattle.peg_store.specs.Places.{Places, content_of, content_if, stored_of, with_content}
 use Rattle.peg_store.specs.Places.{bytes_in, entries_of, HasSlot, slots_of, IsNoneOf, AreApart, IsTied}

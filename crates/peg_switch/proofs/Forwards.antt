@@ -4,8 +4,8 @@ use Rattle.std.proofs.Common.{arith, ap, ◌∙◌, nat_lt, nat_le, length}
 use Rattle.std.proofs.lemmas.Bool.Decides.{nat_tests}
 use Rattle.peg_name.specs.declared.Format.{Format}
 use Rattle.peg_name.specs.declared.Format.TheVariants.{One, Two}
-use Rattle.peg_name.specs.declared.Content.{Content}
-use Rattle.peg_name.specs.declared.Content.TheVariants.{Absent, Present}
+use Rattle.peg_name.specs.declared.value.Content.{Content}
+use Rattle.peg_name.specs.declared.value.Content.TheVariants.{Absent, Present}
 use Rattle.peg_name.specs.Name.{Rack, InLimits, servers_most}
 use Rattle.peg_event.specs.declared.Outcome.{Outcome}
 use Rattle.peg_event.specs.declared.Outcome.TheVariants.{Ordered}

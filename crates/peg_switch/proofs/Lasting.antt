@@ -3,13 +3,13 @@ use Rattle.std.proofs.Common.{◌≡◌, ℕ, ◌+◌, ◌==◌, Bool, true, fal
 use Rattle.std.proofs.Common.{refl, ap, if◌then◌else◌}
 use Rattle.std.proofs.lemmas.Bool.{cond_both}
 use Rattle.peg_name.specs.Name.{Rack}
-use Rattle.peg_name.specs.declared.Content.{Content}
-use Rattle.peg_event.specs.declared.CopyFrom.{CopyFrom}
-use Rattle.peg_event.specs.declared.CopyFrom.TheVariants as copy_from
-use Rattle.peg_event.specs.declared.FenceOf.{FenceOf}
-use Rattle.peg_event.specs.declared.FenceOf.TheVariants as fence_at
-use Rattle.peg_event.specs.declared.Forward.{Forward}
-use Rattle.peg_event.specs.declared.Forward.TheVariants as forward
+use Rattle.peg_name.specs.declared.value.Content.{Content}
+use Rattle.peg_event.specs.declared.answers.CopyFrom.{CopyFrom}
+use Rattle.peg_event.specs.declared.answers.CopyFrom.TheVariants as copy_from
+use Rattle.peg_event.specs.declared.answers.FenceOf.{FenceOf}
+use Rattle.peg_event.specs.declared.answers.FenceOf.TheVariants as fence_at
+use Rattle.peg_event.specs.declared.answers.Forward.{Forward}
+use Rattle.peg_event.specs.declared.answers.Forward.TheVariants as forward
 use Rattle.peg_event.specs.declared.SwitchDid.TheVariants as did
 use Rattle.peg_model.specs.Words.{refuse}
 use Rattle.peg_model.specs.Packet.{Packet, What, Command, Promote, Demote, Copy, FenceKey, Seal}

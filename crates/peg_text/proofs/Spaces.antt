@@ -8,8 +8,8 @@ use Rattle.std.proofs.lemmas.List.Splits.{slice_split_none, slice_split_at}
 use Rattle.std.proofs.lemmas.List.Splits.{join_with_byte-slice_split}
 use Rattle.std.proofs.lemmas.Bool.Decides.{nat_tests}
 use Rattle.peg_name.specs.Limits.{is_between}
-use Rattle.peg_name.specs.declared.Content.{Content}
-use Rattle.peg_name.specs.declared.Content.TheVariants.{Absent, Present}
+use Rattle.peg_name.specs.declared.value.Content.{Content}
+use Rattle.peg_name.specs.declared.value.Content.TheVariants.{Absent, Present}
 use Rattle.peg_model.specs.Text.{hex_digit, key_word, value_word, content_word, hex_word}
 use Rattle.peg_text.specs.declared.spelling.Form.{Form}
 use Rattle.peg_text.specs.declared.spelling.Form.TheVariants.{Word, Hex}

@@ -9,8 +9,8 @@ use Rattle.std.proofs.lemmas.Option.{none-some, same_Some}
 use Rattle.std.proofs.lemmas.Slice.Eq.{bytes_eq-Decides}
 use Rattle.std.proofs.lemmas.Bool.Decides.{nat_tests}
 use Rattle.peg_name.specs.Limits.{is_between}
-use Rattle.peg_name.specs.declared.Content.{Content}
-use Rattle.peg_name.specs.declared.Content.TheVariants.{Absent, Present}
+use Rattle.peg_name.specs.declared.value.Content.{Content}
+use Rattle.peg_name.specs.declared.value.Content.TheVariants.{Absent, Present}
 use Rattle.peg_model.specs.Text.{hex_digit, plain_or_escaped, key_word, value_word, content_word}
 use Rattle.peg_model.specs.Text.{hex_word}
 use Rattle.peg_model.specs.Schedule.{AreBytes, IsKeyOfBytes}

@@ -3,10 +3,10 @@
 use Rattle.std.specs.Prelude.{ℕ, Bool, true, ◌&&◌, nat_lt, nat_le, Option, Some, None}
 use Rattle.std.specs.Prelude.{option_and_then, List, [], ◌∷◌, if◌then◌else◌, codes}
 use Rattle.std.specs.Str.{bytes_eq}
-use Rattle.peg_name.specs.declared.Content.{Content}
-use Rattle.peg_name.specs.declared.Content.TheVariants.{Absent}
-use Rattle.peg_event.specs.declared.Act.TheVariants as act
-use Rattle.peg_event.specs.declared.Op.{Op}
+use Rattle.peg_name.specs.declared.value.Content.{Content}
+use Rattle.peg_name.specs.declared.value.Content.TheVariants.{Absent}
+use Rattle.peg_event.specs.declared.history.Act.TheVariants as act
+use Rattle.peg_event.specs.declared.history.Op.{Op}
 use Rattle.peg_text.specs.Reading.{words_of, number_below, content_of, then_by, next_by, both_by}
 use Rattle.peg_text.specs.Reading.{whole_of}
 use Rattle.peg_text.specs.Events.{Read, read_as, read_key, read_number}

@@ -15,8 +15,8 @@ use Rattle.std.specs.Prelude.{◌∷◌, length, take, drop, slice_index, if◌t
 use Rattle.std.specs.List.{slice_split}
 use Rattle.std.specs.Str.{bytes_eq}
 use Rattle.peg_name.specs.Limits.{is_between}
-use Rattle.peg_name.specs.declared.Content.{Content}
-use Rattle.peg_name.specs.declared.Content.TheVariants.{Absent, Present}
+use Rattle.peg_name.specs.declared.value.Content.{Content}
+use Rattle.peg_name.specs.declared.value.Content.TheVariants.{Absent, Present}
 use Rattle.peg_model.specs.Text.{hex_digit, plain_or_escaped}
 use Rattle.peg_text.specs.declared.spelling.Form.{Form}
 use Rattle.peg_text.specs.declared.spelling.Form.TheVariants.{Word, Hex}

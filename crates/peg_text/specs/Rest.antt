@@ -4,7 +4,7 @@
 --     end_text answered      when it was answered, and without what a read was given
 --     rest_text op      all behind the client
 use Rattle.std.specs.Prelude.{ℕ, Option, Some, None, List, ◌++◌, codes, decimal}
-use Rattle.peg_event.specs.declared.Op.{Op}
+use Rattle.peg_event.specs.declared.history.Op.{Op}
 use Rattle.peg_event.specs.declared.SwitchDid.{SwitchDid}
 use Rattle.peg_event.specs.declared.SwitchDid.TheVariants as switch_did
 use Rattle.peg_event.specs.declared.Said.{Said}

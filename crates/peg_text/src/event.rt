@@ -1,6 +1,5 @@
 //! The lines of a schedule, read.
 ghost use Rattle.std.specs.Prelude.{◌≡◌, ◌≤◌, ◌<◌, IfSome, option_map, codes};
-ghost use Rattle.peg_name.specs.Name.{value_most};
 ghost use Rattle.peg_text.specs.Reading.{next_by, both_by, number_below, words_of};
 ghost use Rattle.peg_text.specs.Events as events;
 ghost use Rattle.peg_text.specs.EntryLine.{IsEntryLine};
@@ -49,16 +48,6 @@ fn read_target(words: &mut Words<'_>) -> Option<u8>
     Some(number as u8)
 }
 
-fn most_of_value(format: Format) -> usize
-    ensures most { result ≡ value_most format }
-    ensures few { result ≤ 1024 }
-{
-    match format {
-        Format::One => 512,
-        Format::Two => 1024,
-    }
-}
-
 fn read_value<'a>(
     config: &Config,
     words: &mut Words<'a>,
@@ -67,7 +56,7 @@ fn read_value<'a>(
     ensures { option_map (λ value. (value, words.new)) result
         ≡ events.read_value config.now words.old }
 {
-    words.value(most_of_value(config.format()), room)
+    words.value(config.format().most_of_value(), room)
 }
 
 fn read_client_key(config: &Config, words: &mut Words<'_>) -> Option<(ClientId, Key)>

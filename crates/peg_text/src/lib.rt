@@ -2,6 +2,7 @@
 #![tactic(auto)]
 
 mod event;
+mod history;
 mod op;
 mod print;
 mod rack;
@@ -12,9 +13,8 @@ mod text;
 mod words;
 
 pub use event::{Entry, event_of};
+pub use history::{datagrams_text, history_text, op_text, order_text, place_text};
 pub use op::op_of;
-pub use print::{
-    body_text, datagrams_text, history_text, line_text, op_text, order_text, place_text, said_text,
-};
+pub use print::{body_text, line_text, said_text};
 pub use rack::{Rack, rack_of};
 pub use text::Text;

@@ -1,7 +1,7 @@
 //! The lines of operations, read.
 ghost use Rattle.std.specs.Prelude.{◌≡◌, ℕ, IfSome, option_map, codes};
 ghost use Rattle.peg_model.specs.Judge.{IsOpLine};
-ghost use Rattle.peg_event.specs.declared.Op as book;
+ghost use Rattle.peg_event.specs.declared.history.Op as book;
 ghost use Rattle.peg_text.specs.Reading.{words_of};
 ghost use Rattle.peg_text.specs.Ops as ops;
 

@@ -4,8 +4,8 @@ use Rattle.std.proofs.Common.{Some, None, List, [], ◌∷◌, ◌++◌, length,
 use Rattle.std.proofs.Common.{ap, ◌∙◌, subst, slice_get, arith}
 use Rattle.std.specs.Prelude.{slice_set}
 use Rattle.peg_event.specs.declared.ClientDid.{ClientDid}
-use Rattle.peg_event.specs.declared.Op.{Op}
-use Rattle.peg_event.specs.declared.Pending.{Pending}
+use Rattle.peg_event.specs.declared.history.Op.{Op}
+use Rattle.peg_event.specs.declared.answers.Pending.{Pending}
 use Rattle.peg_model.specs.Words.{below}
 use Rattle.peg_model.specs.Client.{Client, new_client}
 use Rattle.peg_model.specs.World.{World, Operation}

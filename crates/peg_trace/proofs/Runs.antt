@@ -8,7 +8,7 @@ use Rattle.std.specs.List.{AllByRecursion}
 use Rattle.peg_name.specs.Name.{Rack}
 use Rattle.peg_event.specs.declared.Event.{Event}
 use Rattle.peg_event.specs.declared.Line.{Line}
-use Rattle.peg_event.specs.declared.Op.{Op}
+use Rattle.peg_event.specs.declared.history.Op.{Op}
 use Rattle.peg_event.specs.declared.Said.{Said}
 use Rattle.peg_model.specs.World.{World, Operation, start, step, run, history}
 use Rattle.peg_model.specs.World.{stamped_as, answered_as}

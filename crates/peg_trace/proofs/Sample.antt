@@ -6,9 +6,9 @@ use Rattle.std.specs.Prelude.{slice_index_or, IfSome, IsSome, Contains, codes}
 use Rattle.std.specs.Fmt.{digits}
 use Rattle.peg_name.specs.Name.{Rack}
 use Rattle.peg_name.specs.declared.Format.TheVariants.{One}
-use Rattle.peg_name.specs.declared.Content.TheVariants.{Absent, Present}
-use Rattle.peg_event.specs.declared.Act.TheVariants as act
-use Rattle.peg_event.specs.declared.Op.{Op}
+use Rattle.peg_name.specs.declared.value.Content.TheVariants.{Absent, Present}
+use Rattle.peg_event.specs.declared.history.Act.TheVariants as act
+use Rattle.peg_event.specs.declared.history.Op.{Op}
 use Rattle.peg_event.specs.declared.Event.{Event}
 use Rattle.peg_event.specs.declared.Event.TheVariants.{Read, Write, Delete, Deliver}
 use Rattle.peg_model.specs.Register.{IsRegisterHistory}

@@ -4,11 +4,11 @@ use Rattle.std.proofs.Common.{Some, None, List, length, map, refl, sym}
 use Rattle.std.proofs.Common.{ap, ◌∙◌, subst, slice_get, arith}
 use Rattle.std.specs.Prelude.{slice_set, if◌then◌else◌}
 use Rattle.std.proofs.lemmas.Grind.{common_steps}
-use Rattle.peg_name.specs.declared.Content.{Content}
+use Rattle.peg_name.specs.declared.value.Content.{Content}
 use Rattle.peg_event.specs.declared.ClientDid.{ClientDid}
 use Rattle.peg_event.specs.declared.ClientDid.TheVariants as client_did
-use Rattle.peg_event.specs.declared.Op.{Op}
-use Rattle.peg_event.specs.declared.Pending.{Pending}
+use Rattle.peg_event.specs.declared.history.Op.{Op}
+use Rattle.peg_event.specs.declared.answers.Pending.{Pending}
 use Rattle.peg_model.specs.Client.{Client}
 use Rattle.peg_model.specs.World.{World, Operation, AppliedFence}
 use Rattle.peg_model.specs.World.{client_of, is_named, answered_as}

@@ -6,8 +6,8 @@ use Rattle.std.proofs.Common.{ap, ◌∙◌, subst, slice_get, arith}
 use Rattle.std.specs.Prelude.{slice_set, slice_index_or, if◌then◌else◌, is_none}
 use Rattle.peg_event.specs.declared.ClientDid.{ClientDid}
 use Rattle.peg_event.specs.declared.Line.{Line}
-use Rattle.peg_event.specs.declared.Op.{Op}
-use Rattle.peg_event.specs.declared.Pending.{Pending}
+use Rattle.peg_event.specs.declared.history.Op.{Op}
+use Rattle.peg_event.specs.declared.answers.Pending.{Pending}
 use Rattle.peg_event.specs.declared.Said.TheVariants as said
 use Rattle.peg_model.specs.Client.{Client, new_client}
 use Rattle.peg_model.specs.World.{World, Operation}

@@ -7,11 +7,11 @@
 --     AreAnswered lines ops      each line that says of a client that it is answered does so
 --     AreTold trace ops      the lines of the trace are the texts of such lines
 use Rattle.std.specs.Prelude.{◌≡◌, ◌+◌, ℕ, Bool, true, false, Some, List, slice_get}
-use Rattle.peg_event.specs.declared.Act.TheVariants as act
+use Rattle.peg_event.specs.declared.history.Act.TheVariants as act
 use Rattle.peg_event.specs.declared.ClientDid.{ClientDid}
 use Rattle.peg_event.specs.declared.ClientDid.TheVariants as client_did
 use Rattle.peg_event.specs.declared.Line.{Line}
-use Rattle.peg_event.specs.declared.Op.{Op}
+use Rattle.peg_event.specs.declared.history.Op.{Op}
 use Rattle.peg_event.specs.declared.Said.TheVariants as said
 use Rattle.peg_trace.specs.Lines.{trace_lines}
 

@@ -4,7 +4,7 @@ use Rattle.std.proofs.Common.{[], ◌∷◌, ◌++◌, length, map, take, Option
 use Rattle.std.proofs.Common.{subst, ◌∙◌, inl, inr, if◌then◌else◌, arith}
 use Rattle.std.specs.Prelude.{slice_get, unwrap_or, ◌==◌}
 use Rattle.std.specs.List.{AllByRecursion}
-use Rattle.peg_event.specs.declared.Op.{Op}
+use Rattle.peg_event.specs.declared.history.Op.{Op}
 use Rattle.peg_model.specs.Order.{keys_in}
 use Rattle.peg_model.specs.Judge.{OpInRange, IssuedAfter, verdict_of, verdict_text}
 use Rattle.peg_meaning.specs.Session.{Input, Entry, Came, Goes, Past, Inputs, More, IsWanted}

@@ -8,7 +8,7 @@ use Rattle.std.proofs.lemmas.List.{length-set}
 use Rattle.peg_name.specs.Name.{Rack}
 use Rattle.peg_event.specs.declared.Event.{Event}
 use Rattle.peg_event.specs.declared.Event.TheVariants as event
-use Rattle.peg_event.specs.declared.Op.{Op}
+use Rattle.peg_event.specs.declared.history.Op.{Op}
 use Rattle.peg_model.specs.World.{World, Operation, start, step}
 use Rattle.peg_meaning.specs.Session.{Input, Entry, Inputs, Answer, Goes, Past, saying, IsTaken}
 use Rattle.peg_meaning.specs.Session.{state_of}

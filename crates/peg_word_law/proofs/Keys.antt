@@ -3,15 +3,15 @@ use Rattle.std.proofs.Common.{◌≡◌, ℕ, Bool, true, false, Option, Some, N
 use Rattle.std.proofs.Common.{sym, subst, if◌then◌else◌}
 use Rattle.std.specs.Prelude.{slice_get, is_none, IfSome}
 use Rattle.std.specs.List.{AllByRecursion}
-use Rattle.peg_name.specs.declared.Content.TheVariants.{Absent, Present}
+use Rattle.peg_name.specs.declared.value.Content.TheVariants.{Absent, Present}
 use Rattle.peg_name.specs.declared.Node.{Node}
 use Rattle.peg_name.specs.declared.Node.TheVariants as node
-use Rattle.peg_event.specs.declared.Ask.TheVariants as ask
+use Rattle.peg_event.specs.declared.answers.Ask.TheVariants as ask
 use Rattle.peg_event.specs.declared.Event.{Event}
 use Rattle.peg_event.specs.declared.Event.TheVariants as event
-use Rattle.peg_event.specs.declared.Op.{Op}
-use Rattle.peg_event.specs.declared.Issue.{Issue}
-use Rattle.peg_event.specs.declared.Issue.TheVariants as issue
+use Rattle.peg_event.specs.declared.history.Op.{Op}
+use Rattle.peg_event.specs.declared.answers.Issue.{Issue}
+use Rattle.peg_event.specs.declared.answers.Issue.TheVariants as issue
 use Rattle.peg_event.specs.declared.Outcome.TheVariants as outcome
 use Rattle.peg_event.specs.declared.SwitchDid.{SwitchDid}
 use Rattle.peg_event.specs.declared.SwitchDid.TheVariants as switch_did

@@ -7,7 +7,7 @@ use Rattle.std.specs.List.{AllByRecursion}
 use Rattle.std.proofs.lemmas.Bool.Decides.{eqb_tells}
 use Rattle.std.proofs.Math.Nat.{mod-eq_of_lt}
 use Rattle.peg_name.specs.Name.{Rack, home_of}
-use Rattle.peg_event.specs.declared.Listing.{Listing}
+use Rattle.peg_event.specs.declared.answers.Listing.{Listing}
 use Rattle.peg_model.specs.Rules.{server_of_read, server_of_write}
 use Rattle.peg_model.specs.Words.{below}
 use Rattle.peg_meaning.proofs.Keeping.{lt_tells}

@@ -2,12 +2,12 @@
 use Rattle.std.proofs.Common.{◌≡◌, ◌≤◌, ℕ, Bool, true, false, not, ◌&&◌, Option, Some, None, List}
 use Rattle.std.proofs.Common.{length, refl, sym, ap, subst, ◌∙◌, if◌then◌else◌}
 use Rattle.peg_name.specs.Name.{Rack, home_of}
-use Rattle.peg_name.specs.declared.Content.{Content}
+use Rattle.peg_name.specs.declared.value.Content.{Content}
 use Rattle.peg_name.specs.declared.Format.{Format}
 use Rattle.peg_name.specs.declared.Node.{Node}
-use Rattle.peg_event.specs.declared.Listing.{Listing}
-use Rattle.peg_event.specs.declared.Stamp.{Stamp}
-use Rattle.peg_event.specs.declared.Stamp.TheVariants as stamp_did
+use Rattle.peg_event.specs.declared.answers.Listing.{Listing}
+use Rattle.peg_event.specs.declared.answers.Stamp.{Stamp}
+use Rattle.peg_event.specs.declared.answers.Stamp.TheVariants as stamp_did
 use Rattle.peg_event.specs.declared.SwitchDid.TheVariants as did
 use Rattle.peg_model.specs.Words.{refuse, below}
 use Rattle.peg_model.specs.Packet.{Packet, Read, Write, ToServerRead, ToServerWrite}

@@ -3,7 +3,7 @@ use Rattle.std.proofs.Common.{◌≡◌, ◌≤◌, ◌+◌, ◌-◌, ◌⊎◌,
 use Rattle.std.proofs.Common.{map, flat_map, Option, Some, None, refl, sym, ap, ◌∙◌, inl, inr}
 use Rattle.std.proofs.Common.{arith, append-nil, append_assoc}
 use Rattle.std.proofs.lemmas.List.{length_push, map_push}
-use Rattle.peg_event.specs.declared.Op.{Op}
+use Rattle.peg_event.specs.declared.history.Op.{Op}
 use Rattle.peg_meaning.specs.CheckWord.{CheckEntry, Skipped, History, Operation, Order, At, Done}
 use Rattle.peg_meaning.specs.CheckWord.{Checked, Stage, Skipping, Reading, Finished, next_key}
 use Rattle.peg_meaning.specs.CheckWord.{IsStageLine, IsCheckedLine, IsPlaceLine, IsOrderLine}

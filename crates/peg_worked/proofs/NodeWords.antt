@@ -4,9 +4,9 @@ use Rattle.std.specs.Prelude.{◌≡◌, true, false, Some, List, [], ◌∷◌,
 use Rattle.std.specs.Fmt.{digits}
 use Rattle.peg_name.specs.Holders.{servers_from, servers_of}
 use Rattle.peg_name.specs.declared.Format.TheVariants.{One, Two}
-use Rattle.peg_name.specs.declared.Content.TheVariants.{Absent, Present}
+use Rattle.peg_name.specs.declared.value.Content.TheVariants.{Absent, Present}
 use Rattle.peg_event.specs.declared.Command.TheVariants as command
-use Rattle.peg_event.specs.declared.Ask.TheVariants as ask
+use Rattle.peg_event.specs.declared.answers.Ask.TheVariants as ask
 use Rattle.peg_model.specs.Packet.{in_range, spelling}
 use Rattle.peg_model.specs.Reading.{packet_of}
 use Rattle.peg_model.specs.Handover.{state_bytes, state_of}
@@ -55,7 +55,9 @@ asked_inputs =
     ∷ carries (codes "504701060000000000000000000100000000000000010000016b")
     ∷ Entry ((codes "k"), ask.Read)
     ∷ Quiet
+    ∷ Tick
     ∷ Quiet
+    ∷ Tick
     ∷ []
 
 asked_lines : spell (λ asked. ask_line asked ∷ []) asked_inputs (
@@ -88,7 +90,9 @@ unfoldable pub ruled_inputs : List (Input Call)
 ruled_inputs =
     Entry (Orders (command.Promote (codes "k")))
     ∷ Quiet
+    ∷ Tick
     ∷ Quiet
+    ∷ Tick
     ∷ Entry (Orders (command.Handover 1))
     ∷ []
 
@@ -124,10 +128,13 @@ ask_pauses_inputs =
     Entry ((codes "k"), (ask.Write (Present (codes "x"))))
     ∷ Quiet
     ∷ Quiet
+    ∷ Tick
     ∷ Quiet
     ∷ Quiet
+    ∷ Tick
     ∷ Quiet
     ∷ Quiet
+    ∷ Tick
     ∷ []
 
 ask_pauses_lines : spell (λ asked. ask_line asked ∷ []) ask_pauses_inputs (
@@ -304,6 +311,7 @@ ask_one_inputs =
     ∷ Quiet
     ∷ Quiet
     ∷ Quiet
+    ∷ Tick
     ∷ Quiet
     ∷ Quiet
     ∷ carries (codes "504701050001000000000000000100000000000000000000016300")
@@ -319,15 +327,18 @@ ask_one_inputs =
     ∷ Quiet
     ∷ Quiet
     ∷ Quiet
+    ∷ Tick
     ∷ Quiet
     ∷ Quiet
     ∷ Quiet
+    ∷ Tick
     ∷ Entry ((codes "a"), ask.Read)
     ∷ carries (codes "50470105000100000000000000060000000000000006010001610100027631")
     ∷ Entry ((codes "c"), ask.Read)
     ∷ carries (codes "50470105000100000000000000060000000000000006010001610100027631")
     ∷ carries (codes "50470105000100000000000000060000000000000006010001610100027631")
     ∷ Quiet
+    ∷ Tick
     ∷ Quiet
     ∷ carries (codes "5047")
     ∷ carries (codes "5047010500010000000000000007000000000000000500000163010003763130")
@@ -335,9 +346,11 @@ ask_one_inputs =
     ∷ carries (codes "5047010500010000000000000007000000000000000500000163010003763130")
     ∷ Quiet
     ∷ Quiet
+    ∷ Tick
     ∷ Quiet
     ∷ carries (codes "5047")
     ∷ Quiet
+    ∷ Tick
     ∷ []
 
 ask_one_lines : spell (λ asked. ask_line asked ∷ []) ask_one_inputs (
@@ -393,6 +406,7 @@ control_one_inputs =
     ∷ Quiet
     ∷ Quiet
     ∷ Quiet
+    ∷ Tick
     ∷ Quiet
     ∷ carries (codes "5047010800000000000000010a0000000000000000")
     ∷ Entry (Orders (command.Handover 1))
@@ -409,6 +423,7 @@ control_one_inputs =
     ∷ Quiet
     ∷ Quiet
     ∷ Quiet
+    ∷ Tick
     ∷ carries (codes "5047010f00000000000000020000000000000003020161000000000000000100000000" ++ codes "00000000016b00000000000000020000000000000000")
     ∷ Entry Retries
     ∷ Entry (Orders (command.Fence (codes "c")))
@@ -604,57 +619,79 @@ ask_two_inputs =
     Entry ((codes "a"), (ask.Write (Present (codes "w0"))))
     ∷ Quiet
     ∷ Quiet
+    ∷ Tick
     ∷ Quiet
     ∷ carries (codes "5047020600010000000000000001000000000000000101000161")
     ∷ Entry ((codes "a"), (ask.Write Absent))
     ∷ Quiet
     ∷ Quiet
+    ∷ Tick
     ∷ Quiet
     ∷ Quiet
+    ∷ Tick
     ∷ Quiet
     ∷ Quiet
+    ∷ Tick
     ∷ Entry ((codes "c"), ask.Read)
     ∷ carries (codes "5047020600010000000000000002000000000000000301000161")
     ∷ Quiet
+    ∷ Tick
     ∷ carries (codes "5047020600010000000000000002000000000000000301000161")
     ∷ carries (codes "5047020600010000000000000002000000000000000301000161")
+    ∷ Tick
     ∷ Quiet
     ∷ Quiet
+    ∷ Tick
     ∷ Entry ((codes "c"), (ask.Write (Present (codes "w3"))))
     ∷ Quiet
     ∷ carries (codes "504702050001000000000000000300000000000000000100016300")
+    ∷ Tick
     ∷ carries (codes "504702050001000000000000000300000000000000000100016300")
     ∷ Quiet
+    ∷ Tick
     ∷ Quiet
     ∷ Quiet
+    ∷ Tick
     ∷ Entry ((codes "k"), (ask.Write (Present (codes "w4"))))
     ∷ Quiet
     ∷ carries (codes "504702050001000000000000000300000000000000000100016300")
+    ∷ Tick
     ∷ Quiet
     ∷ Quiet
+    ∷ Tick
     ∷ carries (codes "5047020d000000000000000100")
     ∷ Quiet
+    ∷ Tick
     ∷ Entry ((codes "k"), (ask.Write Absent))
     ∷ Quiet
     ∷ Quiet
+    ∷ Tick
     ∷ carries (codes "5047020600010000000000000004000000000000000501000163")
     ∷ Quiet
+    ∷ Tick
     ∷ Quiet
     ∷ Quiet
+    ∷ Tick
     ∷ Entry ((codes "k"), ask.Read)
     ∷ Quiet
     ∷ Quiet
+    ∷ Tick
     ∷ Quiet
     ∷ Quiet
+    ∷ Tick
     ∷ Quiet
     ∷ carries (codes "504702060001000000000000000500000000000000070100016b")
+    ∷ Tick
     ∷ Entry ((codes "a"), (ask.Write (Present (codes "w7"))))
     ∷ Quiet
     ∷ carries (codes "504702060001000000000000000600000000000000080000016b")
+    ∷ Tick
     ∷ Quiet
     ∷ Quiet
+    ∷ Tick
     ∷ Quiet
     ∷ carries (codes "504702060001000000000000000600000000000000080000016b")
+    ∷ Tick
     ∷ []
 
 ask_two_lines : spell (λ asked. ask_line asked ∷ []) ask_two_inputs (
@@ -724,23 +761,28 @@ control_two_inputs =
     ∷ Entry (Orders (command.Fence (codes "a")))
     ∷ Quiet
     ∷ Quiet
+    ∷ Tick
     ∷ Quiet
     ∷ carries (codes "504702080000000000000001050000000000000000")
     ∷ Entry (Orders command.Clear)
     ∷ Quiet
     ∷ Quiet
+    ∷ Tick
     ∷ carries (codes "5047020800000000000000020a0000000000000000")
     ∷ Entry (Orders (command.Promote (codes "c")))
     ∷ Quiet
     ∷ Quiet
+    ∷ Tick
     ∷ carries (codes "504702080000000000000003010000000000000003")
     ∷ Entry (Plans 3 2)
     ∷ carries (codes "5047")
     ∷ carries (codes "504702080000000000000003010000000000000003")
+    ∷ Tick
     ∷ carries (codes "504702080000000000000004040000000000000003")
     ∷ Entry (Orders (command.Promote (codes "c")))
     ∷ carries (codes "504702080000000000000004040000000000000003")
     ∷ Quiet
+    ∷ Tick
     ∷ carries (codes "504702070000000000000003010163")
     ∷ carries (codes "504702080000000000000005020000000000000003")
     ∷ Entry (Orders (command.Fence (codes "c")))

@@ -4,12 +4,12 @@ use Rattle.std.specs.Prelude.{◌≡◌, true, Some, List, [], ◌∷◌, ◌++�
 use Rattle.std.specs.Fmt.{digits}
 use Rattle.peg_name.specs.Holders.{servers_from, servers_of}
 use Rattle.peg_name.specs.declared.Format.TheVariants.{One, Two}
-use Rattle.peg_name.specs.declared.Content.TheVariants.{Present}
+use Rattle.peg_name.specs.declared.value.Content.TheVariants.{Present}
 use Rattle.peg_name.specs.declared.Node.TheVariants as node
 use Rattle.peg_event.specs.declared.Event.{Event}
 use Rattle.peg_event.specs.declared.Event.TheVariants as event
 use Rattle.peg_event.specs.declared.Command.TheVariants as command
-use Rattle.peg_event.specs.declared.Ask.TheVariants as ask
+use Rattle.peg_event.specs.declared.answers.Ask.TheVariants as ask
 use Rattle.peg_model.specs.Packet.{in_range, spelling}
 use Rattle.peg_model.specs.Reading.{packet_of}
 use Rattle.peg_model.specs.Handover.{state_bytes, state_of}

@@ -2,13 +2,13 @@
 -- verdicts.
 use Rattle.std.specs.Prelude.{◌≡◌, ℕ, true, Option, Some, None, List, [], ◌∷◌, refl, codes}
 use Rattle.std.specs.Fmt.{digits}
-use Rattle.peg_name.specs.declared.Content.TheVariants.{Absent, Present}
+use Rattle.peg_name.specs.declared.value.Content.TheVariants.{Absent, Present}
 use Rattle.peg_meaning.specs.Session.{Input, Entry}
 use Rattle.peg_meaning.specs.Played.{played, plays}
-use Rattle.peg_name.specs.declared.Content.{Content}
-use Rattle.peg_event.specs.declared.Act.{Act}
-use Rattle.peg_event.specs.declared.Act.TheVariants as act
-use Rattle.peg_event.specs.declared.Op.{Op}
+use Rattle.peg_name.specs.declared.value.Content.{Content}
+use Rattle.peg_event.specs.declared.history.Act.{Act}
+use Rattle.peg_event.specs.declared.history.Act.TheVariants as act
+use Rattle.peg_event.specs.declared.history.Op.{Op}
 use Rattle.peg_meaning.specs.CheckWord.{CheckEntry, Skipped, History, Operation, Order, At, Done}
 use Rattle.peg_meaning.specs.CheckWord.{check_lines, check_start, judges}
 use Rattle.peg_model.proofs.Computed.{lines}

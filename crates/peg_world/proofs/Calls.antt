@@ -7,12 +7,12 @@ use Rattle.peg_name.specs.Name.{Rack, parts_most}
 use Rattle.peg_name.specs.declared.Format.{Format}
 use Rattle.peg_name.specs.declared.Node.{Node}
 use Rattle.peg_name.specs.declared.OutOfMemory.{OutOfMemory}
-use Rattle.peg_event.specs.declared.Ask.{Ask}
+use Rattle.peg_event.specs.declared.answers.Ask.{Ask}
 use Rattle.peg_event.specs.declared.ClientDid.{ClientDid}
 use Rattle.peg_event.specs.declared.ClientDid.TheVariants as client_did
 use Rattle.peg_event.specs.declared.ControlDid.{ControlDid}
 use Rattle.peg_event.specs.declared.ControlDid.TheVariants as control_did
-use Rattle.peg_event.specs.declared.Issue.{Issue}
+use Rattle.peg_event.specs.declared.answers.Issue.{Issue}
 use Rattle.peg_event.specs.declared.ServerDid.{ServerDid}
 use Rattle.peg_event.specs.declared.ServerDid.TheVariants as server_did
 use Rattle.peg_event.specs.declared.SwitchDid.{SwitchDid}

@@ -3,10 +3,10 @@ use Rattle.std.proofs.Common.{◌≡◌, ℕ, ◌<◌, ◌≤◌, List, sym, ◌
 use Rattle.std.proofs.Common.{slice_get, slice_set, true}
 use Rattle.std.specs.List.{AllByRecursion}
 use Rattle.peg_name.specs.declared.Node.{Node}
-use Rattle.peg_event.specs.declared.Ask.{Ask}
+use Rattle.peg_event.specs.declared.answers.Ask.{Ask}
 use Rattle.peg_event.specs.declared.ClientDid.{ClientDid}
-use Rattle.peg_event.specs.declared.Issue.{Issue}
-use Rattle.peg_event.specs.declared.Op.{Op}
+use Rattle.peg_event.specs.declared.answers.Issue.{Issue}
+use Rattle.peg_event.specs.declared.history.Op.{Op}
 use Rattle.peg_model.specs.Words.{Step}
 use Rattle.peg_model.specs.Packet.{Packet}
 use Rattle.peg_model.specs.Client.{Client, begin_operation, client_step, give_up}

@@ -8,17 +8,17 @@ use Rattle.std.proofs.lemmas.Bool.{cond_both}
 use Rattle.std.proofs.lemmas.Bool.Decides.{nat_tests}
 use Rattle.std.proofs.lemmas.List.{length-map}
 use Rattle.peg_name.specs.Name.{Rack}
-use Rattle.peg_name.specs.declared.Content.{Content}
-use Rattle.peg_name.specs.declared.Content.TheVariants.{Absent}
+use Rattle.peg_name.specs.declared.value.Content.{Content}
+use Rattle.peg_name.specs.declared.value.Content.TheVariants.{Absent}
 use Rattle.peg_name.specs.declared.Node.{Node}
-use Rattle.peg_event.specs.declared.Ask.{Ask}
-use Rattle.peg_event.specs.declared.Ask.TheVariants as ask
+use Rattle.peg_event.specs.declared.answers.Ask.{Ask}
+use Rattle.peg_event.specs.declared.answers.Ask.TheVariants as ask
 use Rattle.peg_event.specs.declared.ClientDid.{ClientDid}
 use Rattle.peg_event.specs.declared.ClientDid.TheVariants as client_did
-use Rattle.peg_event.specs.declared.Issue.{Issue}
-use Rattle.peg_event.specs.declared.Issue.TheVariants as issue
-use Rattle.peg_event.specs.declared.Op.{Op}
-use Rattle.peg_event.specs.declared.Pending.{Pending}
+use Rattle.peg_event.specs.declared.answers.Issue.{Issue}
+use Rattle.peg_event.specs.declared.answers.Issue.TheVariants as issue
+use Rattle.peg_event.specs.declared.history.Op.{Op}
+use Rattle.peg_event.specs.declared.answers.Pending.{Pending}
 use Rattle.peg_model.specs.Words.{Step}
 use Rattle.peg_model.specs.Packet.{Packet}
 use Rattle.peg_model.specs.Client.{Client, begin_operation, client_step, give_up, give_up_of}

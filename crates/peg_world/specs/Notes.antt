@@ -5,8 +5,8 @@
 --     noted w s note      the world with it
 use Rattle.std.specs.Prelude.{ℕ, Option, Some, None}
 use Rattle.peg_name.specs.declared.Format.{Format}
-use Rattle.peg_event.specs.declared.Ask.{Ask}
-use Rattle.peg_event.specs.declared.Ask.TheVariants as ask
+use Rattle.peg_event.specs.declared.answers.Ask.{Ask}
+use Rattle.peg_event.specs.declared.answers.Ask.TheVariants as ask
 use Rattle.peg_history.specs.Contents.{size_of}
 use Rattle.peg_event.specs.declared.SwitchDid.{SwitchDid}
 use Rattle.peg_event.specs.declared.SwitchDid.TheVariants as switch_did

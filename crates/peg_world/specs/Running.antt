@@ -18,7 +18,7 @@ use Rattle.peg_event.specs.declared.Event.{Event}
 use Rattle.peg_event.specs.declared.Line.{Line}
 use Rattle.peg_event.specs.declared.Said.{Said}
 use Rattle.peg_event.specs.declared.Said.TheVariants as said
-use Rattle.peg_event.specs.declared.Op.{Op}
+use Rattle.peg_event.specs.declared.history.Op.{Op}
 use Rattle.peg_model.specs.Register.{IsRegisterHistory}
 use Rattle.peg_model.specs.World.{World, start, step}
 use Rattle.peg_law.specs.OfRun.{IsWorldOfRun, ShowsRun}

@@ -8,8 +8,8 @@
 --     IsTold, IsControl said      what is said of an operation or of what the controller was told,
 --         and of the latter alone
 use Rattle.std.specs.Prelude.{ℕ, Option, Some, None, Result, Ok, Err, if◌then◌else◌, nat_lt, length}
-use Rattle.peg_name.specs.declared.Content.{Content}
-use Rattle.peg_name.specs.declared.Content.TheVariants.{Absent}
+use Rattle.peg_name.specs.declared.value.Content.{Content}
+use Rattle.peg_name.specs.declared.value.Content.TheVariants.{Absent}
 use Rattle.peg_event.specs.declared.ClientDid.{ClientDid}
 use Rattle.peg_event.specs.declared.ClientDid.TheVariants as client_did
 use Rattle.peg_event.specs.declared.Event.{Event}

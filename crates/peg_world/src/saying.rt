@@ -2,7 +2,7 @@
 ghost use Rattle.std.specs.Prelude.{◌≡◌, ℕ, List, true};
 ghost use Rattle.peg_model.specs.World.{new_op, issue_said, resend_said, give_up_said, junk_said};
 ghost use Rattle.peg_model.specs.World.{order_said, retry_said, plan_said};
-ghost use Rattle.peg_event.specs.declared.Issue.TheVariants as issue;
+ghost use Rattle.peg_event.specs.declared.answers.Issue.TheVariants as issue;
 ghost use Rattle.peg_model.specs.Reading.{packet_of};
 ghost use Rattle.peg_event.specs.declared.SwitchDid.TheVariants as switch_did;
 ghost use Rattle.peg_event.specs.declared.Outcome.TheVariants as outcome;

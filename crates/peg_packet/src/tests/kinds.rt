@@ -17,7 +17,7 @@ macro_rules! reads {
 }
 
 #[test]
-fn requests(rt: HostRuntime) {
+fn writes(rt: HostRuntime) {
     reads!(
         rt,
         WRITE,
@@ -43,6 +43,10 @@ fn requests(rt: HostRuntime) {
             content: Some([b'x']),
         }
     );
+}
+
+#[test]
+fn reads(rt: HostRuntime) {
     let bytes = b"PG\x01\x01\0\0\0\0\0\0\0\0\0\x02\0\0\0\0\0\0\0\0\0\0\x01k";
     reads!(
         rt,
@@ -70,7 +74,7 @@ fn requests(rt: HostRuntime) {
 }
 
 #[test]
-fn replies_and_voids(rt: HostRuntime) {
+fn replies(rt: HostRuntime) {
     let bytes = b"PG\x01\x06\0\0\0\0\0\0\0\0\0\x01\0\0\0\0\0\0\0\x01\0\0\x01k";
     reads!(
         rt,
@@ -102,6 +106,10 @@ fn replies_and_voids(rt: HostRuntime) {
             content: Some([b'x']),
         }
     );
+}
+
+#[test]
+fn voids(rt: HostRuntime) {
     let bytes = b"PG\x01\x11\0\x02\0\0\0\0\0\0\0\x03\0\0\0\0\0\0\0\x04\x05\x01\x01k";
     reads!(
         rt,
@@ -120,7 +128,7 @@ fn replies_and_voids(rt: HostRuntime) {
 }
 
 #[test]
-fn copies_and_fences(rt: HostRuntime) {
+fn copies(rt: HostRuntime) {
     let bytes = b"PG\x01\x09\x01\x02\x03\x02ab";
     reads!(
         rt,
@@ -144,6 +152,10 @@ fn copies_and_fences(rt: HostRuntime) {
             content: None,
         }
     );
+}
+
+#[test]
+fn what_is_held_and_fences(rt: HostRuntime) {
     let bytes = b"PG\x01\x0b\x02\0\0\0\0\0\0\x01\x02\x02ab";
     reads!(
         rt,
@@ -204,7 +216,7 @@ fn parts_and_surveys(rt: HostRuntime) {
 }
 
 #[test]
-fn every_command(rt: HostRuntime) {
+fn commands_of_keys(rt: HostRuntime) {
     let bytes = b"PG\x01\x07\0\0\0\0\0\0\0\x09\x01\x01k";
     reads!(
         rt,
@@ -235,6 +247,10 @@ fn every_command(rt: HostRuntime) {
             },
         }
     );
+}
+
+#[test]
+fn commands_of_switches(rt: HostRuntime) {
     let bytes = b"PG\x01\x07\0\0\0\0\0\0\0\x09\x04\x03\0\0\0\0\0\0\0\x02";
     reads!(
         rt,

@@ -1,7 +1,7 @@
 use Rattle.std.proofs.Common.{◌<◌, ◌∙◌, ap, sym, subst, arith}
 use Rattle.indexmap.proofs.CallerLemmas.{index_map_len-with_value_at}
 use Rattle.peg_name.specs.declared.Note.{Note}
-use Rattle.peg_event.specs.declared.Listing.{Listing}
+use Rattle.peg_event.specs.declared.answers.Listing.{Listing}
 use Rattle.peg_model.specs.Handover.{is_entry}
 use Rattle.peg_directory.specs.Table.{Table, IsAt}
 use Rattle.peg_directory.proofs.Kept.{found_within, reported_within, after_put}

@@ -4,7 +4,7 @@ use Rattle.std.proofs.lemmas.List.{length_push}
 use Rattle.std.specs.Str.{bytes_eq}
 use Rattle.indexmap.specs.IndexMap.{insert_entry}
 use Rattle.indexmap.proofs.CallerLemmas.{insert_entry-new}
-use Rattle.peg_event.specs.declared.Listing.{Listing}
+use Rattle.peg_event.specs.declared.answers.Listing.{Listing}
 use Rattle.peg_model.specs.Handover.{is_entry}
 use Rattle.peg_model.specs.Packet.{is_key}
 use Rattle.peg_model.specs.Rules.{list_key}

@@ -1,6 +1,6 @@
 use Rattle.std.proofs.Common.{◌≡◌, ◌<◌, List, ap, sym, subst, arith, length, map, set, slice_get, slice_set}
 use Rattle.std.specs.Prelude.{IfSome}
-use Rattle.peg_event.specs.declared.Op.{Op}
+use Rattle.peg_event.specs.declared.history.Op.{Op}
 use Rattle.peg_model.specs.World.{with_answer}
 use Rattle.peg_history.specs.Ledger.{Ledger}
 use Rattle.peg_history.specs.Rows.{op_of, answered_bytes}

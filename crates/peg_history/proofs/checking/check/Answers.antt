@@ -1,4 +1,4 @@
-use Rattle.peg_event.specs.declared.Verdict.TheVariants.{Yes, No}
+use Rattle.peg_event.specs.declared.history.Verdict.TheVariants.{Yes, No}
 use Rattle.peg_history.proofs.Judged.{judged_at, judged_all}
 use Rattle.peg_history.proofs.Law.{yes_exactly}
 use Rattle.peg_history.proofs.checking.check.Goals as goal

@@ -1,7 +1,7 @@
 use Rattle.std.proofs.Common.{ap, ◌∙◌, sym}
 use Rattle.std.specs.BTreeMap.{is_at}
 use Rattle.peg_name.specs.Name.{key_cmp}
-use Rattle.peg_event.specs.declared.Stored.{Stored}
+use Rattle.peg_event.specs.declared.answers.Stored.{Stored}
 use Rattle.peg_model.specs.Server.{held}
 use Rattle.peg_store.specs.Places.{HasSlot}
 use Rattle.peg_store.proofs.Entries.{found_has}

@@ -4,7 +4,7 @@ use Rattle.std.specs.Result.{OnOk}
 use Rattle.std.specs.Map.{lookup}
 use Rattle.std.specs.BTreeMap.{is_at}
 use Rattle.peg_name.specs.Name.{key_cmp}
-use Rattle.peg_event.specs.declared.Stored.{Stored}
+use Rattle.peg_event.specs.declared.answers.Stored.{Stored}
 use Rattle.peg_model.specs.Server.{with_stored, held, nothing_held}
 use Rattle.peg_store.specs.declared.Place.{Place}
 use Rattle.peg_store.specs.Held.{IsHeld}

@@ -43,6 +43,7 @@ invariant_of-self c =
           ∙ line_of-drop all c.args.count count
           ∙ ap (λ xs. length (line_of xs))
           (sym (slice_range-later c.self.inside.buf c.self.inside.start c.self.inside.end c.args.count within));
+      none = λ is. omega (arith, c.self.invariant.none is, within);
     }
 
 pub returns : goal.returns
@@ -60,4 +61,4 @@ returns c =
     let rest = slice_range-later c.self.inside.buf c.self.inside.start c.self.inside.end c.args.count within ∙ ap (λ xs. drop c.args.count xs) held in
     let more = c.copy_part.ensures.line ∙ ap (λ xs. xs ++ take c.args.count (drop c.self.inside.start c.self.inside.buf)) line
     ∙ ap (λ xs. c.args.self.now.line ++ xs) (sym (take-slice_range c.self.inside.buf c.self.inside.start c.self.inside.end c.args.count within) ∙ ap (λ xs. take c.args.count xs) held) in
-    λ i. record { held = rest i; line = more i }
+    λ i. record { held = rest i; line = more i; ended = ap (λ (r : ReadAhead). r.ended) c.self.view_is i }

@@ -14,4 +14,4 @@ returns c =
       c.self.invariant.ordered,
     ) in
     let rest = slice_range-later c.self.inside.buf c.self.inside.start c.self.inside.end 1 within ∙ ap (λ xs. drop 1 xs) held in
-    λ i. record { held = rest i; line = ap (λ (r : ReadAhead). r.line) c.self.view_is i }
+    λ i. record { held = rest i; line = ap (λ (r : ReadAhead). r.line) c.self.view_is i; ended = ap (λ (r : ReadAhead). r.ended) c.self.view_is i }

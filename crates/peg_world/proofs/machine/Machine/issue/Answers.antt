@@ -1,5 +1,5 @@
 use Rattle.std.proofs.Common.{ap, ◌∙◌, refl, map, arith}
-use Rattle.peg_event.specs.declared.Op.{Op}
+use Rattle.peg_event.specs.declared.history.Op.{Op}
 use Rattle.peg_model.specs.World.{World}
 use Rattle.peg_world.specs.Acting.{Acting, client_at}
 use Rattle.peg_world.specs.Machine.{midway_of}

@@ -1,0 +1,44 @@
+use Rattle.std.proofs.Common.{ap, refl}
+use Rattle.peg_meaning.specs.Roles.{is_refused}
+use Rattle.peg_node.specs.Calls.{call_as}
+use Rattle.peg_node.specs.Consoles.{console_of}
+use Rattle.peg_node.specs.Phases.{phase_as}
+use Rattle.std.proofs.Common.{◌+◌, arith}
+use Rattle.peg_node.proofs.ControlSteps.{line_called, posted_items, kept}
+use Rattle.peg_node.proofs.console.Console.make.Goals as goal
+
+pub returns-then-not-push_said-clause-took : goal.returns-then-not-push_said-clause-took
+returns-then-not-push_said-clause-took g c =
+    let s = c.args.self.now in
+    record {
+      came = _;
+      is =
+          line_called (console_of s) (call_as c.args.call.now) c.make-said.new.controller
+          c.make-said.result (is_refused c.make-said.result) c.make-said.new.post.items
+          (ap phase_as c.requires.reading) c.requires.few c.make-said.ensures.answer
+          c.make-said.ensures.after
+          (posted_items s.controller.rack.format s.post c.make-said.new.post _ c.requires.empty
+          c.requires.console.same_format c.make-said.ensures.sent)
+          refl;
+      over = c.if-not-push_said.ensures.content;
+    }
+
+pub returns-clause-console : goal.returns-clause-console
+returns-clause-console g c =
+    let s = c.args.self.now in
+    let after =
+    kept s.controller c.make-said.new.controller s.post c.make-said.new.post _ c.requires.console.same_format c.requires.console.room
+    c.requires.empty c.make-said.ensures.sent c.make-said.ensures.rack c.make-said.ensures.nodes in
+    let few = c.requires.few in
+    λ is. c.wait_on.ensures.console
+    (record {
+      same_format = after.0;
+      room = after.1.0;
+      low = c.requires.console.low;
+      some_tries = c.requires.console.some_tries;
+      few_tries = c.requires.console.few_tries;
+      few_waits = c.requires.console.few_waits;
+      few_lines = omega (arith, few);
+      phase = c.requires.console.phase;
+      nodes = after.1.1;
+    })
