@@ -12,9 +12,12 @@ use peg_session::{End, drive};
 use std::alloc::Global;
 
 mod checking;
+mod law;
 mod numbers;
 mod reading;
 mod verdict;
+
+pub use law::says_yes_of_histories;
 
 /// Judges what the source has: the lines of a trace, which are skipped, the history, the order of
 /// each of its keys, and the line `done`. Writes one line into the sink: the verdict.

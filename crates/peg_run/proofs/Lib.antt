@@ -8,3 +8,5 @@ mod Headline
 mod Limits
 mod Replayed
 pub mod Verdicts
+pub mod Soaks
+mod RoleEnds

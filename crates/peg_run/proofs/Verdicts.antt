@@ -1,8 +1,16 @@
 -- How the session of `check` ended, as `run` says it.
 use Rattle.std.proofs.Common.{◌≡◌, ◌≢◌, ◌⊎◌, ℕ, Bool, true, false, Option, None, List, []}
 use Rattle.std.proofs.Common.{refl, sym, subst, inl, inr}
-use Rattle.std.specs.Prelude.{◌==◌, ◌+◌, if◌then◌else◌}
-use Rattle.peg_io.specs.Outside.{Tells, Rose}
+use Rattle.std.proofs.Common.{◌∷◌, ◌++◌, length, ap, arith, codes, decimal, slice_index}
+use Rattle.std.specs.Prelude.{◌==◌, ◌↔◌, if◌then◌else◌}
+use Rattle.std.specs.List.{AllByRecursion}
+use Rattle.peg_event.specs.declared.history.Op.{Op}
+use Rattle.peg_event.specs.declared.history.Verdict.{Verdict}
+use Rattle.peg_event.specs.declared.history.Verdict.TheVariants as verdict
+use Rattle.peg_model.specs.Judge.{verdict_of, verdict_text}
+use Rattle.peg_model.specs.Register.{IsRegisterHistory}
+use Rattle.peg_model.specs.Schedule.{fed}
+use Rattle.peg_io.specs.Outside.{Tells}
 use Rattle.peg_io.proofs.Telling.{Tells_as}
 use Rattle.peg_meaning.specs.Session as session
 use Rattle.peg_meaning.specs.Session.{Inputs, Begin, More, Input, Came, IsTaken, IsTurn, after}
@@ -15,10 +23,8 @@ use Rattle.peg_session.specs.Ends.{Told, told, Ended, MayEnd, IsRead, IsNear}
 use Rattle.peg_session.specs.declared.End.{End}
 use Rattle.peg_session.specs.declared.End.TheVariants as end
 use Rattle.peg_session.proofs.Standings.{not_begun}
-use Rattle.peg_run.specs.Ends.{HasCause}
 use Rattle.peg_run.specs.Status.{status_of}
-use Rattle.peg_run.specs.Verdicts.{EndsAs, IsVerdict}
-use Rattle.peg_run.specs.declared.Status.{Status}
+use Rattle.peg_run.specs.Verdicts.{EndsAs, IsYes, IsVerdict}
 use Rattle.peg_run.specs.declared.Status.TheVariants as status
 
 -- there was no memory to begin
@@ -26,6 +32,41 @@ pub begins_not : (before : Told) → EndsAs judges check_start status.OutOfMemor
 begins_not before = (end.OutOfMemory, refl, not_begun judges _ [] [] before)
 
 -- ---- what was written
+
+unlike : ◌≡◌ {A = ℕ} 110 121 → ⊥
+unlike same = omega arith
+
+says_yes : (v : Verdict) (operations keys : ℕ)
+    → IsYes (fed (verdict_text v operations keys)) ↔ (v ≡ verdict.Yes)
+says_yes verdict.Yes operations keys = (
+  λ y. refl,
+  λ is. (
+    (decimal operations ++ codes " operations " ++ decimal keys ++ codes " keys") ++ 10 ∷ [],
+    refl,
+  ),
+)
+says_yes (verdict.No f) operations keys = (
+  λ y. absurd (unlike (ap (λ t. slice_index t 0) y.1)),
+  λ is. absurd (cc),
+)
+
+abbrev YesLaw : Type 0
+YesLaw = (ops : List Op) (key_orders : List (List ℕ × List ℕ))
+    → (verdict_of ops key_orders ≡ verdict.Yes)
+    ↔ AllByRecursion (λ o. IsRegisterHistory ops o.0 o.1) key_orders
+
+yes_in : (c : Checked) (text : List ℕ)
+    → text
+    ≡ fed (verdict_text (verdict_of c.ops c.key_orders) (length c.ops) (length c.key_orders))
+    → YesLaw
+    → IsYes text ↔ AllByRecursion (λ o. IsRegisterHistory c.ops o.0 o.1) c.key_orders
+yes_in c text is law =
+    let v = verdict_of c.ops c.key_orders in
+    let line = says_yes v (length c.ops) (length c.key_orders) in
+    let exactly = law c.ops c.key_orders in (
+      λ y. exactly.0 (line.0 (subst IsYes is y)),
+      λ all. subst IsYes (sym is) (line.1 (exactly.1 all)),
+    )
 
 judged_by :
     (stage : Stage) (entries : List CheckEntry) (text : List ℕ) → MayEnd (check_want stage)
@@ -41,9 +82,9 @@ Law = (inputs : Inputs CheckEntry) → IsTaken judges check_start inputs
 
 module _ (l l' h h' : Option (List ℕ)) where
   pub verdict_of_done :
-      Law → Ended judges check_start (told l h None 0) (told l' h' None 0) end.Done
+      Law → YesLaw → Ended judges check_start (told l h None 0) (told l' h' None 0) end.Done
       → IsVerdict l l' h h'
-  verdict_of_done law done =
+  verdict_of_done law exactly done =
       let inputs = done.inputs in
       let judged = judged_by (state_of judges check_start inputs).stage (entries_of inputs)
       (text_of judges check_start inputs) done.over (law inputs done.taken) in
@@ -53,6 +94,7 @@ module _ (l l' h h' : Option (List ℕ)) where
         text = text_of judges check_start inputs;
         read = Tells_as l l' _ _ (λ b n r. (r.0, r.1, r.3)) done.read;
         judged = judged.1;
+        yes = yes_in judged.0 _ judged.1.written exactly;
         written = done.written;
       }
 

@@ -8,7 +8,7 @@
 --     Ended status      all that holds at this status, and that a schedule within the limits
 --         doesn't end with a refusal
 --     HasCause status ..      a fault has its cause
-use Rattle.std.specs.Prelude.{◌≡◌, ◌≤◌, ◌<◌, ◌+◌, ℕ, Bool, true, Option, Some, List, []}
+use Rattle.std.specs.Prelude.{◌≡◌, ◌≤◌, ◌<◌, ◌+◌, ℕ, Bool, true, Option, List, []}
 use Rattle.std.specs.Prelude.{◌∷◌, ◌++◌, length, drop, map, if◌then◌else◌, codes, String}
 use Rattle.std.specs.Prelude.{string_bytes}
 use Rattle.std.specs.List.{AllByRecursion}

@@ -3,3 +3,5 @@ pub mod Status
 pub mod Ends
 pub mod Forced
 pub mod Verdicts
+pub mod Soaks
+pub mod Roles

@@ -12,6 +12,9 @@ use peg_world::World;
 use std::alloc::{AllocError, Global};
 use std::test::Fail;
 
+mod nodes;
+mod soaks;
+
 fn words_of(alloc: Global, texts: &[&str]) -> Result<Vec<String>, AllocError> {
     let mut words = Vec::new(alloc);
     for text in texts {
@@ -298,6 +301,8 @@ fn other_words_are_no_command(rt: HostRuntime) -> Result<(), Fail> {
         answer_to(rt.alloc(), &["replay", "x"])?,
         Some(Status::Usage)
     );
+    let words: &[&str] = &["switch", "7000", "0:1:1:1:1:1", "0", "2"];
+    assert_eq!(rt; answer_to(rt.alloc(), words)?, Some(Status::Usage));
     assert_eq!(rt; answer_to(rt.alloc(), &["replay"])?, None);
     Ok(())
 }

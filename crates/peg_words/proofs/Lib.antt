@@ -1,1 +1,5 @@
-pub mod Command
+pub mod Parsed
+pub mod Decimals
+pub mod Counts
+pub mod Hyphens
+pub mod RackNumbers

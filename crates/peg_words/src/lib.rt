@@ -1,28 +1,46 @@
 //! From the words of a command line to the job that they call for.
 #![tactic(auto)]
 
-ghost use Rattle.std.specs.Prelude.{◌≡◌, IfOk, Err, None, Some, map, option_and_then};
+ghost use Rattle.std.specs.Prelude.{◌≡◌, IfOk, IfSome, Err, None, Some, ◌∷◌, map};
 ghost use Rattle.std.specs.String.{string_bytes};
 ghost use Rattle.std.specs.List.{list_any};
-ghost use Rattle.clap.specs.Words.{app_of, subcommand_name_of};
-ghost use Rattle.peg_words.specs.Commands.{commands, is_dashed, job_named};
-ghost use Rattle.peg_words.specs.Jobs.{job_of};
+ghost use Rattle.peg_words.specs.Jobs.{job_of, count_of, IsInRange};
+ghost use Rattle.peg_words.specs.Arguments.{is_dashed};
 
-use clap::error::ErrorKind;
-use clap::{ArgMatches, Command};
+use arguments::exactly;
+use jobs::{ask, control, plain, server, soak, switch};
+use peg_name::Config;
+pub use role::Role;
 use std::alloc::{AllocError, Global};
 use thiserror::Error;
 
+mod arguments;
+mod jobs;
+mod numbers;
+mod racks;
+mod role;
 #[cfg(test)]
 mod tests;
 
 /// What the program is to do.
-#[derive(Clone, Copy, Debug, PartialEq, Eq)]
+#[derive(Clone, Copy, Debug)]
 pub enum Job {
     /// Read a schedule, and write its trace, its history and its orders.
     Replay,
     /// Read a history and the orders of its keys, and write the verdict on them.
     Check,
+    /// Make a workload of 1 to 20,000 events from a number, play it, and write what it came to.
+    Soak {
+        events: u64,
+        start: u64,
+    },
+    /// Run one node of a rack over a wire. The ports of the nodes begin at `base`, from 1,024 to
+    /// 60,000.
+    Node {
+        base: u16,
+        config: Config,
+        role: Role,
+    },
 }
 
 /// Why the words call for no job.
@@ -48,21 +66,28 @@ impl From<AllocError> for WordFault {
 }
 
 /// The job of the words that follow the program's name: the first names a command, and the others
-/// are exactly its arguments. There are no options and there is no help. `Usage` says that the
-/// words are no command.
+/// are exactly its arguments. A number is written in decimal without a sign or a leading zero, and a
+/// rack as six numbers with colons between: servers, clients, switches, listed keys, rows of counts
+/// and the first version; in format 2 `:2` stands behind them.
+/// There are no options and there is no help. `Usage` says that the words are no command.
 pub fn read_words(alloc: Global, words: &[String]) -> Result<Job, WordFault>
     ensures job { IfOk result (λ job. job_of (map string_bytes words.now) ≡ Some job) }
     ensures usage { result ≡ Err WordFault.Usage → job_of (map string_bytes words.now) ≡ None }
+    ensures in_range { IfOk result IsInRange }
 {
     if has_option(words) {
         return Err(WordFault::Usage);
     }
-    match commands(alloc)?.try_get_matches_from(words) {
-        Ok(matches) => job_met(&matches).ok_or(WordFault::Usage),
-        Err(error) => match error.kind() {
-            ErrorKind::OutOfMemory => Err(WordFault::OutOfMemory),
-            _ => Err(WordFault::Usage),
-        },
+    let Some((name, arguments)) = words.split_first() else {
+        return Err(WordFault::Usage);
+    };
+    let Some(count) = count_of(name.as_str()) else {
+        return Err(WordFault::Usage);
+    };
+    exactly(alloc, count, arguments)?;
+    match job_by(name.as_str(), arguments) {
+        Some(job) => Ok(job),
+        None => Err(WordFault::Usage),
     }
 }
 
@@ -79,26 +104,35 @@ fn is_option(word: &str) -> bool
     matches!(word.as_bytes(), [b'-', ..])
 }
 
-/// The job of the command that the parser met.
-fn job_met(matches: &ArgMatches<'_>) -> Option<Job>
-    ensures { result ≡ option_and_then job_named (subcommand_name_of matches.now) }
+// How many arguments the command has.
+fn count_of(name: &str) -> Option<usize>
+    ensures { result ≡ count_of name.now }
 {
-    match matches.subcommand_name() {
-        Some("replay") => Some(Job::Replay),
-        Some("check") => Some(Job::Check),
+    match name {
+        "replay" => Some(0),
+        "check" => Some(0),
+        "soak" => Some(2),
+        "switch" => Some(4),
+        "server" => Some(4),
+        "control" => Some(4),
+        "ask" => Some(6),
         _ => None,
     }
 }
 
-/// The commands, for the parser of the words.
-fn commands<'a>(alloc: Global) -> Result<Command<'a>, AllocError>
-    ensures { IfOk result (λ command. app_of command ≡ commands) }
+// The job of a command and its arguments.
+fn job_by(name: &str, words: &[String]) -> Option<Job>
+    ensures job { result ≡ job_of (name.now ∷ map string_bytes words.now) }
+    ensures in_range { IfSome result IsInRange }
 {
-    Command::new(alloc, "peg")
-        .no_binary_name(true)
-        .disable_help_flag(true)
-        .disable_help_subcommand(true)
-        .subcommand_required(true)
-        .subcommand(Command::new(alloc, "replay"))?
-        .subcommand(Command::new(alloc, "check"))
+    match name {
+        "replay" => plain(Job::Replay, words),
+        "check" => plain(Job::Check, words),
+        "soak" => soak(words),
+        "switch" => switch(words),
+        "server" => server(words),
+        "control" => control(words),
+        "ask" => ask(words),
+        _ => None,
+    }
 }

@@ -1,4 +1,4 @@
-use Rattle.std.proofs.Common.{◌≡◌, ◌∙◌, sym, subst, None}
+use Rattle.std.proofs.Common.{◌∙◌, sym, subst, None}
 use Rattle.peg_meaning.specs.CheckWord.{judges, check_start}
 use Rattle.peg_session.specs.Ends.{Ended, told}
 use Rattle.peg_session.specs.declared.End.{End}
@@ -19,7 +19,7 @@ returns-clause-verdict g c =
     let h = g.K.Sink.held c.args.sink.now in
     let h' = g.K.Sink.held c.check.new.sink in
     let done = done_by c.check.result (sym c.status_of.ensures ∙ is) in
-    verdict_of_done l l' h h' c.judges_histories.ensures
+    verdict_of_done l l' h h' c.judges_histories.ensures c.says_yes_of_histories.ensures
     (subst (λ (e : End). Ended judges check_start (told l h None 0) (told l' h' None 0) e) done
     c.check.ensures.ended)
 

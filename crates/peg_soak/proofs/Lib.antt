@@ -1,0 +1,5 @@
+pub mod Drawn
+pub mod Played
+pub mod SixLines
+pub mod Ends
+pub mod Counted
