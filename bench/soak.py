@@ -46,7 +46,7 @@ def event(draw, number, sent):
     if d < 9:
         return f'{"resend" if d == 7 else "giveup"} {draw(8)}'
     if d == 9:
-        return f'junk switch {draw(2)} {draw((1 << 64) - 1):016x}'
+        return f'junk switch {draw(2)} x{draw((1 << 64) - 1):016x}'
     if d < 12:
         return f'{"promote" if d == 10 else "demote"} {key(draw)}'
     if d == 12:
