@@ -21,5 +21,6 @@ mod turning;
 
 pub use client::ask;
 pub use controller::serve_controller;
+pub use outbox::{port, room_of};
 pub use server::serve_server;
 pub use switch::serve_switch;

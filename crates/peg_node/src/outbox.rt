@@ -12,8 +12,9 @@ use peg_name::{Config, Format, Node, SwitchId};
 use peg_session::Page;
 use peg_text::{Text, datagrams_text};
 
-// The port of a node of the rack.
-pub(crate) fn port(base: u16, config: &Config, node: Node) -> u16
+/// The port of a node of the rack: the controller has the base itself, and behind it come switches,
+/// servers from 8 on and clients from 128 on.
+pub fn port(base: u16, config: &Config, node: Node) -> u16
     requires low { base ≤ 60000 }
     requires within { is_in_rack config.now node ≡ true }
     ensures { result ≡ port_of base node }
@@ -42,8 +43,9 @@ fn client_port(base: u16, clients: u64, id: u16) -> u16
     base + 128 + id
 }
 
-// One byte more than a packet of the format may have.
-pub(crate) fn room_of(format: Format) -> usize
+/// The bytes that a receive takes at most: one more than a packet of the format may have, so that a
+/// longer datagram is no packet.
+pub fn room_of(format: Format) -> usize
     ensures is { result ≡ room format }
     ensures few { result ≤ 1153 }
     ensures some { 1 ≤ result }

@@ -1,2 +1,3 @@
 mod Tails
 mod Parts
+mod Orders

@@ -8,7 +8,7 @@ ghost use Rattle.peg_session.specs.Took.{Took, TookLine, WantFits};
 
 use peg_event::Event;
 use peg_io::Sink;
-use peg_print::{push_end, push_line, push_tail};
+use peg_print::{prints_orders_of_the_book, push_end, push_line, push_tail};
 use peg_session::{Page, Stepped, Want};
 use peg_text::{Entry, Rack, Text, event_of};
 use peg_world::{Halt, World};
@@ -80,6 +80,7 @@ impl Play {
         let Ok(orders) = self.world.orders(alloc) else {
             return Stepped::OutOfMemory;
         };
+        prints_orders_of_the_book();
         if !push_end(page, text, self.place + 1, sink) {
             return Stepped::Unwritten;
         }

@@ -10,3 +10,4 @@ mod Replayed
 pub mod Verdicts
 pub mod Soaks
 mod RoleEnds
+mod RackEnds

@@ -5,3 +5,4 @@ pub mod Forced
 pub mod Verdicts
 pub mod Soaks
 pub mod Roles
+pub mod Racked

@@ -4,7 +4,7 @@
 --     ServesAs m start turns end before now      all that holds at the end of such a node
 --     RunsNode base rack role end before now      all that holds at the end of a node
 --     EndsNode base rack role status before now      the node ended as the status says
---     IsOffline job      the words call for no node, and so for no wire
+--     IsOffline job      the words call for no node and no rack of nodes, and so for no wire
 use Rattle.std.specs.Prelude.{◌≡◌, ℕ, Option, Some, []}
 use Rattle.peg_name.specs.Name.{Rack}
 use Rattle.peg_meaning.specs.Session.{Meaning, Came}
@@ -58,4 +58,5 @@ EndsNode base rack r status before now =
 
 abbrev pub IsOffline : Option Job → Type 0
 IsOffline (Some (job.Node base rack r)) = ⊥
+IsOffline (Some (job.Rack base)) = ⊥
 IsOffline _ = Unit {0}

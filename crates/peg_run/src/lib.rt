@@ -6,10 +6,12 @@ ghost use Rattle.peg_name.specs.Name.{Rack};
 ghost use Rattle.peg_model.specs.Trace.{RunText};
 ghost use Rattle.peg_io.specs.Outside.{Rose, Tells};
 ghost use Rattle.peg_meaning.specs.CheckWord.{judges, check_start};
+ghost use Rattle.peg_meaning.specs.RackWord.{serves_rack, rack_start};
 ghost use Rattle.peg_session.specs.Alike.{WhereTold};
 ghost use Rattle.peg_session.specs.Ends.{told};
 ghost use Rattle.peg_run.specs.Verdicts.{EndsAs, IsVerdict};
 ghost use Rattle.peg_run.specs.Soaks.{Soaks};
+ghost use Rattle.peg_run.specs.Racked.{ShowsHistories};
 ghost use Rattle.peg_run.specs.Status.{code_of, status_text, status_of};
 ghost use Rattle.peg_run.specs.Roles.{EndsNode, TakesTurns, ReadsLines, IsOffline};
 ghost use Rattle.peg_run.specs.Front.{HasSchedule};
@@ -26,10 +28,12 @@ use peg_soak::soak;
 use peg_trace::shows_each_operation;
 use peg_word_law::judges_histories;
 use peg_words::{Job, Role, WordFault, read_words};
+use racks::run_rack;
 use std::alloc::Global;
 use std::fmt;
 
 mod nodes;
+mod racks;
 #[cfg(test)]
 mod tests;
 #[cfg(test)]
@@ -149,7 +153,7 @@ fn soak_workload<K: Sink>(alloc: Global, events: u64, start: u64, sink: &mut K) 
 /// its history and the order of each key. It takes every line of the grammar. `check` reads a
 /// history and the orders of its keys, or a whole trace, and writes the verdict on them. `soak`
 /// makes a workload, plays it and writes its numbers and the verdict on it, which is yes. `switch`,
-/// `server`, `control` and `ask` run one node of a rack over the wire.
+/// `server`, `control` and `ask` run one node of a rack over the wire, and `rack` runs all of them.
 ///
 /// Whoever reads an order that it prints holds a register history in the hand: so the clause
 /// `linearizable` says, by the definitions of the register alone. It asks of the sink that it tells
@@ -161,7 +165,7 @@ fn soak_workload<K: Sink>(alloc: Global, events: u64, start: u64, sink: &mut K) 
 /// failed, and `WireFault` where the wire did; `OutOfMemory` where there was none for what is kept. Before the source is asked for
 /// more, and before each answer, the text of the lines so far is written; at `WriteFault` and
 /// `OutOfMemory` maybe only a first part of it.
-#[tactic(auto, using(crate::proofs::Answered::text_told, crate::proofs::Headline::histories_told, crate::proofs::Verdicts::begins_not, crate::proofs::Soaks::soaks_as, crate::proofs::RoleEnds::not_run))]
+#[tactic(auto, using(crate::proofs::Answered::text_told, crate::proofs::Headline::histories_told, crate::proofs::Verdicts::begins_not, crate::proofs::Soaks::soaks_as, crate::proofs::RoleEnds::not_run, crate::proofs::RackEnds::rack_not_begun))]
 pub fn run<S: Source, K: Sink, W: Wire>(
     alloc: Global,
     words: &[String],
@@ -258,6 +262,15 @@ pub fn run<S: Source, K: Sink, W: Wire>(
         → job_in words.now ≡ Some (Job.Node base rack role) → ReadsLines role
         → W.slots wire.new ≡ W.slots wire.old
         → (source.new ≡ source.old) × (sink.new ≡ sink.old) }
+    // Of `rack`: its session ended as the status says, over any source, sink and wire.
+    ensures racked { (base : ℕ) → job_in words.now ≡ Some (Job.Rack base)
+        → EndsAs serves_rack (rack_start base) result
+        (told (S.left source.old) (K.held sink.old) (W.carried wire.old) (W.slots wire.old))
+        (told (S.left source.new) (K.held sink.new) (W.carried wire.new) (W.slots wire.new)) }
+    // Done: clients saw one plain register for each key, whatever the wire delivered. What was
+    // appended ends with the operations and orders of a run, each a register history.
+    ensures rack_histories { (base : ℕ) → job_in words.now ≡ Some (Job.Rack base)
+        → result ≡ Status.Done → Tells (K.held sink.old) (K.held sink.new) ShowsHistories }
 {
     prints_register_histories();
     shows_each_operation();
@@ -269,6 +282,7 @@ pub fn run<S: Source, K: Sink, W: Wire>(
         Ok(Job::Node { base, config, role }) => {
             run_node(alloc, *base, config, *role, source, sink, wire)
         }
+        Ok(Job::Rack { base }) => run_rack(alloc, *base, source, sink, wire),
         Err(WordFault::Usage) => Status::Usage,
         Err(WordFault::OutOfMemory) => Status::OutOfMemory,
     }

@@ -13,6 +13,7 @@ use std::alloc::{AllocError, Global};
 use std::test::Fail;
 
 mod nodes;
+mod racks;
 mod soaks;
 
 fn words_of(alloc: Global, texts: &[&str]) -> Result<Vec<String>, AllocError> {
@@ -268,7 +269,7 @@ fn is_judged(alloc: Global, tail: &[u8], verdict: &[u8]) -> Result<bool, AllocEr
 
 #[test]
 fn histories_are_judged(rt: HostRuntime) -> Result<(), Fail> {
-    let cases: [(&[u8], &[u8]); 4] = [
+    let cases: [(&[u8], &[u8]); 8] = [
         (
             b"op 1 client 0 read k issued 7 answered 11 =x\norder k 2\nat 0\nat 1\ndone\n",
             b"yes 2 operations 1 keys\n",
@@ -284,6 +285,22 @@ fn histories_are_judged(rt: HostRuntime) -> Result<(), Fail> {
         (
             b"op 1 client 0 read k issued 7 answered 11 -\norder k 1\nat 1\ndone\n",
             b"no missing 0\n",
+        ),
+        (
+            b"op 1 client 0 read k issued 7 answered 11 =x\norder k 2\nat 0\nat 7\ndone\n",
+            b"no strange 7\n",
+        ),
+        (
+            b"op 1 client 0 read k issued 7 open\norder k 2\nat 0\nat 1\ndone\n",
+            b"no strange 1\n",
+        ),
+        (
+            b"op 1 client 0 read j issued 7 open\norder k 2\nat 0\nat 1\norder j 0\ndone\n",
+            b"no strange 1\n",
+        ),
+        (
+            b"op 1 client 0 read k issued 7 answered 11 =x\norder k 3\nat 0\nat 1\nat 1\ndone\n",
+            b"no twice 1\n",
         ),
     ];
     for (tail, verdict) in cases {
@@ -350,8 +367,9 @@ fn a_packet_in_flight_is_shown(rt: HostRuntime) -> Result<(), Fail> {
     let (client, key) = (ClientId(0), Key::read(b"k")?);
     let event = Event::Read { client, key };
     assert!(rt; comes(&mut world, 2, &event));
-    assert!(rt; world.packets() == 1);
-    let (to, bytes) = world.packet(0);
+    let soup = world.soup();
+    assert!(rt; soup.len() == 1);
+    let (to, bytes) = soup.get(0);
     assert_eq!(rt; to, Node::Switch(SwitchId(0)));
     let read = b"PG\x01\x01\0\0\0\0\0\0\0\0\0\x01\0\0\0\0\0\0\0\0\0\0\x01k";
     assert_eq!(rt; bytes, read.as_slice());

@@ -36,7 +36,7 @@ use Rattle.peg_text.proofs.Lines.{one_holds}
 
 -- ---- the words of each event
 
-abbrev node_ws : Node → List (List ℕ)
+abbrev pub node_ws : Node → List (List ℕ)
 node_ws (node.Client id) = codes "client" ∷ decimal id ∷ []
 node_ws (node.Server id) = codes "server" ∷ decimal id ∷ []
 node_ws (node.Switch id) = codes "switch" ∷ decimal id ∷ []
@@ -100,10 +100,10 @@ hex_read :
     (λ bytes. (length bytes ≤ 1000) × AreBytes bytes)
 hex_read = next_law hex_of hex_word _ hex_law
 
-is_zero : (n : ℕ) → (n == 0) ≡ true → n ≡ 0
+pub is_zero : (n : ℕ) → (n == 0) ≡ true → n ≡ 0
 is_zero n e = grind (arith, nat_tests)
 
-not_zero : (n : ℕ) → (n == 0) ≡ false → n ≡ 0 → ⊥
+pub not_zero : (n : ℕ) → (n == 0) ≡ false → n ≡ 0 → ⊥
 not_zero n e z = grind (arith, nat_tests)
 
 some_word : (n : ℕ) → (suc n == 0) ≡ true → ⊥
@@ -209,7 +209,7 @@ module _ (rack : Rack) (limits : InLimits rack) where
       ((below_read rack.switches few_switches).complete id left ok)
   node_complete node.Controller left ok = refl
 
-  node_read : ReadLaw (read_node rack) node_ws (NodeInRack rack)
+  pub node_read : ReadLaw (read_node rack) node_ws (NodeInRack rack)
   node_read = record { sound = node_sound; complete = node_complete }
 
   -- ---- what is read is spelled
@@ -293,7 +293,7 @@ module _ (rack : Rack) (limits : InLimits rack) where
       bare_sound verb ws e left none e6))))))
 
   -- a pick is a number, or 0 where no word is left
-  pick_sound :
+  pub pick_sound :
       (ws : List (List ℕ)) (p : ℕ) (left : List (List ℕ)) → read_pick ws ≡ Some (p, left)
       → left ≡ [] → (p < 2 ^ 64) × ((ws ≡ decimal p ∷ []) ⊎ ((p ≡ 0) × (ws ≡ [])))
   pick_sound [] p left e none =
@@ -484,17 +484,28 @@ module _ (rack : Rack) (limits : InLimits rack) where
   small_client : (client : ℕ) → client < rack.clients → client < 2 ^ 64
   small_client client ok = omega (arith, few_clients)
 
-  -- the words of a handed byte string's line
-  node_spaceless :
-      (n : Node) (w : List ℕ) → NodeInRack rack n → is_spaceless w ≡ true
-      → AreSpaceless (codes "junk" ∷ (node_ws n ++ w ∷ []))
-  node_spaceless (node.Client id) w ok e =
-      (refl, (refl, (decimal_spaceless id (small_client id ok), (e, tt))))
-  node_spaceless (node.Server id) w ok e =
-      (refl, (refl, (decimal_spaceless id (omega (arith, few_servers, ok)), (e, tt))))
-  node_spaceless (node.Switch id) w ok e =
-      (refl, (refl, (decimal_spaceless id (omega (arith, few_switches, ok)), (e, tt))))
-  node_spaceless node.Controller w ok e = (refl, (refl, (e, tt)))
+  -- the words of a line that names a node
+  pub node_spaceless :
+      (v : List ℕ) (n : Node) (w : List ℕ) → is_spaceless v ≡ true → NodeInRack rack n
+      → is_spaceless w ≡ true → AreSpaceless (v ∷ (node_ws n ++ w ∷ []))
+  node_spaceless v (node.Client id) w first ok e =
+      (first, (refl, (decimal_spaceless id (small_client id ok), (e, tt))))
+  node_spaceless v (node.Server id) w first ok e =
+      (first, (refl, (decimal_spaceless id (omega (arith, few_servers, ok)), (e, tt))))
+  node_spaceless v (node.Switch id) w first ok e =
+      (first, (refl, (decimal_spaceless id (omega (arith, few_switches, ok)), (e, tt))))
+  node_spaceless v node.Controller w first ok e = (first, (refl, (e, tt)))
+
+  pub last_node_spaceless :
+      (v : List ℕ) (n : Node) → is_spaceless v ≡ true → NodeInRack rack n
+      → AreSpaceless (v ∷ node_ws n)
+  last_node_spaceless v (node.Client id) first ok =
+      (first, (refl, (decimal_spaceless id (small_client id ok), tt)))
+  last_node_spaceless v (node.Server id) first ok =
+      (first, (refl, (decimal_spaceless id (omega (arith, few_servers, ok)), tt)))
+  last_node_spaceless v (node.Switch id) first ok =
+      (first, (refl, (decimal_spaceless id (omega (arith, few_switches, ok)), tt)))
+  last_node_spaceless v node.Controller first ok = (first, (refl, tt))
 
   junk_words :
       (n : Node) (w : List ℕ)
@@ -633,7 +644,7 @@ module _ (rack : Rack) (limits : InLimits rack) where
       delivered number pick (pick == 0) line refl range.0 range.1 has
   line_words (event.Junk to bytes) line ok range has =
       cut (codes "junk") (node_ws to ++ hex_word bytes ∷ []) line
-      (node_spaceless to (hex_word bytes) ok (hex_spaceless bytes))
+      (node_spaceless (codes "junk") to (hex_word bytes) refl ok (hex_spaceless bytes))
       (only_one _ _ has ∙ junk_words to (hex_word bytes))
 
   words_line :

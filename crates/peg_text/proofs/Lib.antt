@@ -12,3 +12,4 @@ pub mod EntryLines
 pub mod RackLines
 pub mod OpLines
 pub mod Plain
+pub mod TakeLines

@@ -4,3 +4,4 @@ pub mod Events
 pub mod EntryLine
 pub mod Racks
 pub mod Ops
+pub mod Takes

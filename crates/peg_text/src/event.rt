@@ -69,7 +69,7 @@ fn read_client_key(config: &Config, words: &mut Words<'_>) -> Option<(ClientId, 
 }
 
 // The pick is 0 where the line ends before it.
-fn read_pick(words: &mut Words<'_>) -> Option<u64>
+pub(crate) fn read_pick(words: &mut Words<'_>) -> Option<u64>
     ensures { option_map (λ pick. (pick, words.new)) result ≡ events.read_pick words.old }
 {
     match words.next() {
@@ -78,7 +78,7 @@ fn read_pick(words: &mut Words<'_>) -> Option<u64>
     }
 }
 
-fn read_node(config: &Config, words: &mut Words<'_>) -> Option<Node>
+pub(crate) fn read_node(config: &Config, words: &mut Words<'_>) -> Option<Node>
     ensures { option_map (λ node. (node, words.new)) result
         ≡ events.read_node config.now words.old }
 {
@@ -181,7 +181,7 @@ fn read_delete<'a>(config: &Config, words: &mut Words<'a>) -> Option<Event<'a>>
     }
 }
 
-fn event_by<'a>(
+pub(crate) fn event_by<'a>(
     config: &Config,
     verb: &[u8],
     words: &mut Words<'a>,

@@ -3,6 +3,7 @@ mod printing;
 mod printing_controllers;
 mod printing_switches;
 mod reading;
+mod taking;
 
 use peg_name::{Config, ConfigFault, Key, KeyFault};
 

@@ -1,12 +1,13 @@
 //! A line that is printed, piece by piece.
 ghost use Rattle.std.specs.Prelude.{◌≡◌, ◌+◌, ◌*◌, ◌≤◌, ◌++◌, [], length, codes, decimal};
+ghost use Rattle.peg_model.specs.Schedule.{node_words};
 ghost use Rattle.peg_model.specs.Text.{key_word, content_word, plain_or_escaped};
 ghost use Rattle.peg_text.specs.Reading.{escaped};
 
 use crate::spelling::{are_plain, escaped, is_plain};
 use arrayvec::ArrayVec;
 use itoa::Buffer;
-use peg_name::{ClientId, Content, Key, Seq, ServerId, SwitchId, Version};
+use peg_name::{ClientId, Content, Key, Node, Seq, ServerId, SwitchId, Version};
 use std::marker::Model;
 
 /// A line of text: up to 4,096 bytes, held in place. A contract sees the list of the bytes.
@@ -160,6 +161,20 @@ impl Text {
         ensures room { length self.new ≤ length self.old + length word.now + 20 }
     {
         self.push_word_number(word, u64::from(switch.0));
+    }
+
+    pub(crate) fn push_node(&mut self, word: &[u8], node: &Node)
+        requires { length self.old + length word.now + 31 ≤ 4096 }
+        ensures text { self.new ≡ self.old ++ (word.now ++ node_words node.now) }
+        ensures room { length self.new ≤ length self.old + length word.now + 31 }
+    {
+        self.push_bytes(word);
+        match node {
+            Node::Client(id) => self.push_client(b"client ", id),
+            Node::Server(id) => self.push_server(b"server ", id),
+            Node::Switch(id) => self.push_switch(b"switch ", id),
+            Node::Controller => self.push_bytes(b"controller"),
+        }
     }
 
     pub(crate) fn push_seq(&mut self, word: &[u8], seq: &Seq)

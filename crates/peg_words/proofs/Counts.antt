@@ -6,7 +6,7 @@ use Rattle.std.specs.Str.{bytes_eq}
 use Rattle.std.proofs.lemmas.Slice.Eq.{bytes_eq-Decides}
 use Rattle.peg_meaning.specs.Commands as book
 use Rattle.peg_meaning.specs.Commands.{plain_job, soak_job, switch_job, server_job, control_job}
-use Rattle.peg_meaning.specs.Commands.{ask_job}
+use Rattle.peg_meaning.specs.Commands.{ask_job, rack_job}
 use Rattle.peg_words.specs.Jobs.{job_of, given, count_of}
 
 plain_not : (j : book.Job) (words : List (List ℕ)) → length words ≢ 0 → plain_job j words ≡ None
@@ -53,6 +53,11 @@ ask_not (a ∷ b ∷ c ∷ d ∷ e ∷ []) other = refl
 ask_not (a ∷ b ∷ c ∷ d ∷ e ∷ f ∷ []) other = absurd (other refl)
 ask_not (a ∷ b ∷ c ∷ d ∷ e ∷ f ∷ g ∷ words) other = refl
 
+rack_not : (words : List (List ℕ)) → length words ≢ 1 → rack_job words ≡ None
+rack_not [] other = refl
+rack_not (a ∷ []) other = absurd (other refl)
+rack_not (a ∷ b ∷ words) other = refl
+
 -- ---- names
 
 pub data Named : List ℕ → Type 0 where
@@ -63,28 +68,33 @@ pub data Named : List ℕ → Type 0 where
   server : Named (codes "server")
   control : Named (codes "control")
   ask : Named (codes "ask")
+  whole_rack : Named (codes "rack")
   other : (name : List ℕ) → count_of name ≡ None → Named name
 
 pub named : (name : List ℕ) → Named name
-named name = by _ _ _ _ _ _ _ refl refl refl refl refl refl refl
+named name = by _ _ _ _ _ _ _ _ refl refl refl refl refl refl refl refl
   where
     as_is : (text : List ℕ) → Named text → bytes_eq name text ≡ true → Named name
     as_is text found same =
         subst (λ (n : List ℕ). Named n) (sym ((bytes_eq-Decides name text).0 same)) found
 
-    by : (a b c d e f g : Bool) → bytes_eq name (codes "replay") ≡ a
+    by : (a b c d e f g h : Bool) → bytes_eq name (codes "replay") ≡ a
         → bytes_eq name (codes "check") ≡ b → bytes_eq name (codes "soak") ≡ c
         → bytes_eq name (codes "switch") ≡ d → bytes_eq name (codes "server") ≡ e
-        → bytes_eq name (codes "control") ≡ f → bytes_eq name (codes "ask") ≡ g → Named name
-    by true b c d e f g r k s w v o q = as_is (codes "replay") replay r
-    by false true c d e f g r k s w v o q = as_is (codes "check") check k
-    by false false true d e f g r k s w v o q = as_is (codes "soak") soak s
-    by false false false true e f g r k s w v o q = as_is (codes "switch") switch w
-    by false false false false true f g r k s w v o q = as_is (codes "server") server v
-    by false false false false false true g r k s w v o q = as_is (codes "control") control o
-    by false false false false false false true r k s w v o q = as_is (codes "ask") ask q
-    by false false false false false false false r k s w v o q =
-        other name (rw (r, k, s, w, v, o, q) refl)
+        → bytes_eq name (codes "control") ≡ f → bytes_eq name (codes "ask") ≡ g
+        → bytes_eq name (codes "rack") ≡ h → Named name
+    by true b c d e f g h r k s w v o q u = as_is (codes "replay") replay r
+    by false true c d e f g h r k s w v o q u = as_is (codes "check") check k
+    by false false true d e f g h r k s w v o q u = as_is (codes "soak") soak s
+    by false false false true e f g h r k s w v o q u = as_is (codes "switch") switch w
+    by false false false false true f g h r k s w v o q u = as_is (codes "server") server v
+    by false false false false false true g h r k s w v o q u =
+        as_is (codes "control") control o
+    by false false false false false false true h r k s w v o q u = as_is (codes "ask") ask q
+    by false false false false false false false true r k s w v o q u =
+        as_is (codes "rack") whole_rack u
+    by false false false false false false false false r k s w v o q u =
+        other name (rw (r, k, s, w, v, o, q, u) refl)
 
 pub not_here : (name : List ℕ) (words : List (List ℕ)) → count_of name ≡ None
     → job_of (name ∷ words) ≡ None
@@ -113,6 +123,9 @@ counted_by _ words n control is more =
 counted_by _ words n ask is more =
     let count : 6 ≡ n = cc in
     rw (ask_not words (λ e. more (e ∙ count))) refl
+counted_by _ words n whole_rack is more =
+    let count : 1 ≡ n = cc in
+    rw (rack_not words (λ e. more (e ∙ count))) refl
 counted_by _ words n (other name unlike) is more = not_here name words unlike
 
 -- another count of words is no command
@@ -141,3 +154,7 @@ control_unread words more = rw (control_not words more) refl
 pub ask_unread : (words : List (List ℕ)) → length words ≢ 6
     → None ≡ option_and_then given (ask_job words)
 ask_unread words more = rw (ask_not words more) refl
+
+pub rack_unread : (words : List (List ℕ)) → length words ≢ 1
+    → None ≡ option_and_then given (rack_job words)
+rack_unread words more = rw (rack_not words more) refl

@@ -18,12 +18,14 @@ use Rattle.peg_name.specs.declared.Format.{Format}
 use Rattle.peg_name.specs.declared.Format.TheVariants as format
 use Rattle.peg_meaning.specs.Commands as book
 use Rattle.peg_meaning.specs.Commands.{soak_job, switch_job, server_job, control_job, ask_job, Job}
+use Rattle.peg_meaning.specs.Commands.{rack_job}
 use Rattle.peg_meaning.specs.Commands.{number_within, numbers_within, reading, at_base, rack_of}
 use Rattle.peg_meaning.specs.Commands.{is_colon, between_colons, rack_of_numbers, rack_with}
 use Rattle.peg_words.specs.Arguments.{is_dashed}
 use Rattle.peg_words.specs.Jobs.{job_of}
 use Rattle.peg_words.proofs.Decimals.{and_true}
 use Rattle.peg_words.proofs.Counts.{Named, named, not_here, replay, check, soak, switch, server}
+use Rattle.peg_words.proofs.Counts.{whole_rack}
 use Rattle.peg_words.proofs.Counts.{control, ask, other}
 
 -- ---- numbers
@@ -319,6 +321,12 @@ ask_dashed (a ∷ b ∷ c ∷ d ∷ e ∷ f ∷ []) is =
         ]
 ask_dashed (a ∷ b ∷ c ∷ d ∷ e ∷ f ∷ g ∷ words) is = refl
 
+rack_word_dashed :
+    (words : List (List ℕ)) → list_any is_dashed words ≡ true → rack_job words ≡ None
+rack_word_dashed [] is = refl
+rack_word_dashed (a ∷ []) is = unread 1024 60000 a _ (omega arith) (last _ is)
+rack_word_dashed (a ∷ b ∷ words) is = refl
+
 dashed_by : (name : List ℕ) (words : List (List ℕ)) → Named name
     → list_any is_dashed (name ∷ words) ≡ true → job_of (name ∷ words) ≡ None
 dashed_by _ [] replay is = absurd (cc)
@@ -330,6 +338,7 @@ dashed_by _ words switch is = rw (switch_dashed words is) refl
 dashed_by _ words server is = rw (server_dashed words is) refl
 dashed_by _ words control is = rw (control_dashed words is) refl
 dashed_by _ words ask is = rw (ask_dashed words is) refl
+dashed_by _ words whole_rack is = rw (rack_word_dashed words is) refl
 dashed_by _ words (other name unlike) is = not_here name words unlike
 
 pub dashed : (words : List (List ℕ)) → list_any is_dashed words ≡ true → job_of words ≡ None

@@ -57,6 +57,22 @@ of_none (a ∷ words) free =
     let p : IsPlain a = plain a (or_false _ _ free).0 in
     rw (p.trailing, p.long, p.short) (fails _ _ (a ∷ words) (λ e. omega arith))
 
+-- ---- one word that is taken
+
+of_one : (words : List (List ℕ)) → IsFree words
+    → Judged 1 (fault_of (with_rule parser (values 1)) words) words
+unfolding clap_on_literals walked walk_fault defaults_fault
+of_one [] free = fails _ _ [] (λ e. omega (arith, e))
+of_one (a ∷ []) free =
+    let p : IsPlain a = plain a (or_false _ _ free).0 in
+    rw (p.trailing, p.long, p.short) (passes (a ∷ []) refl)
+of_one (a ∷ b ∷ words) free =
+    let frees = or_false _ _ free in
+    let p : IsPlain a = plain a frees.0 in
+    let q : IsPlain b = plain b (or_false _ _ frees.1).0 in
+    rw (p.trailing, p.long, p.short, q.trailing, q.long, q.short)
+    (fails _ _ (a ∷ b ∷ words) (λ e. omega (arith, e)))
+
 -- ---- several words
 
 texts_pass : (words : List (List ℕ)) → values_kinds false vp.String words ≡ []
@@ -212,28 +228,37 @@ refused : (n : ℕ) (ks : Kinds) (words : List (List ℕ)) (k : ErrorKind) → J
 refused n _ _ k (passes words count) among = absurd among
 refused n _ _ k (fails _ _ words other) among = other
 
-module _ (count : ℕ) (not_one : count ≢ 1) (few : count < 100) where
+module _ (count : ℕ) (few : count < 100) where
   judged : (words : List (List ℕ)) → IsFree words
       → Judged count (fault_of (parser_of count) words) words
-  judged words free = by (count == 0) refl
+  judged words free = by (count == 0) (count == 1) refl refl
     where
-      by : (b : Bool) → (count == 0) ≡ b
+      J : ℕ → Type 0
+      J n = Judged n (fault_of (parser_of n) words) words
+
+      by : (b c : Bool) → (count == 0) ≡ b → (count == 1) ≡ c
           → Judged count (fault_of (parser_of count) words) words
-      by true e =
+      by true c e f =
           let zero : 0 ≡ count = grind (arith, nat_tests, e) in
-          subst (λ (n : ℕ). Judged n (fault_of (parser_of n) words) words) zero
-          (of_none words free)
-      by false e =
-          let some : 1 < count = grind (arith, nat_tests, e, not_one) in
+          subst (λ (n : ℕ). J n) zero (of_none words free)
+      by false true e f =
+          let one : 1 ≡ count = grind (arith, nat_tests, f) in
+          subst (λ (n : ℕ). J n) one (of_one words free)
+      by false false e f =
+          let some : 1 < count = grind (arith, nat_tests, e, f) in
           rw e (of_words count some few words free)
 
   is_simple : is_simple_and_free (parser_of count) ≡ true
-  is_simple = by (count == 0) refl
+  is_simple = by (count == 0) (count == 1) refl refl
     where
-      by : (b : Bool) → (count == 0) ≡ b → is_simple_and_free (parser_of count) ≡ true
-      by true e = rw e refl
-      by false e =
-          let some : 1 < count = grind (arith, nat_tests, e, not_one) in
+      by : (b c : Bool) → (count == 0) ≡ b → (count == 1) ≡ c
+          → is_simple_and_free (parser_of count) ≡ true
+      by true c e f = rw e refl
+      by false true e f =
+          let one : 1 ≡ count = grind (arith, nat_tests, f) in
+          subst (λ (n : ℕ). is_simple_and_free (parser_of n) ≡ true) one refl
+      by false false e f =
+          let some : 1 < count = grind (arith, nat_tests, e, f) in
           rw e (is_simple_parser count some few)
 
   module _ (app : App) (is : app ≡ parser_of count) (words : List (List ℕ))

@@ -26,6 +26,7 @@ counts =
     ∷ (codes "server", 4)
     ∷ (codes "control", 4)
     ∷ (codes "ask", 6)
+    ∷ (codes "rack", 1)
     ∷ []
 
 abbrev pub count_of : List ℕ → Option ℕ
@@ -47,6 +48,7 @@ given (book.Control base rack tries waits) =
     Some (job.Node base rack (role.Control tries waits))
 given (book.Ask base rack client first tries waits) =
     Some (job.Node base rack (role.Ask client first tries waits))
+given (book.WholeRack base) = Some (job.Rack base)
 given _ = None
 
 abbrev pub job_of : List (List ℕ) → Option Job
@@ -66,4 +68,5 @@ IsRoleOf rack (role.Ask client first tries waits) =
 abbrev pub IsInRange : Job → Type 0
 IsInRange (job.Soak events start) = (1 ≤ events) × (events ≤ 20000)
 IsInRange (job.Node base rack r) = (base ≤ 60000) × IsRoleOf rack r
+IsInRange (job.Rack base) = base ≤ 60000
 IsInRange _ = Unit {0}

@@ -52,7 +52,6 @@ fn command<'a>(alloc: Global, count: usize) -> Result<Command<'a>, AllocError>
 // There are so many, each without a hyphen.
 pub(crate) fn exactly(alloc: Global, count: usize, words: &[String]) -> Result<(), WordFault>
     requires free { list_any (λ word. is_dashed (string_bytes word)) words.now ≡ false }
-    requires not_one { count ≢ 1 }
     requires few { count < 100 }
     ensures count { IfOk result (λ _. length words.now ≡ count) }
     ensures others { result ≡ Err WordFault.Usage → length words.now ≢ count }

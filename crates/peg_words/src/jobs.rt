@@ -2,7 +2,7 @@
 ghost use Rattle.std.specs.Prelude.{◌≡◌, IfSome, map, option_and_then};
 ghost use Rattle.std.specs.String.{string_bytes};
 ghost use Rattle.peg_meaning.specs.Commands.{soak_job, switch_job, server_job, control_job};
-ghost use Rattle.peg_meaning.specs.Commands.{ask_job};
+ghost use Rattle.peg_meaning.specs.Commands.{ask_job, rack_job};
 ghost use Rattle.peg_words.specs.Jobs.{given, IsInRange, if_none};
 
 use crate::numbers::{base_of, number_within, tries_of, turns_of, waits_of};
@@ -101,4 +101,15 @@ pub(crate) fn ask(words: &[String]) -> Option<Job>
         waits,
     };
     Some(Job::Node { base, config, role })
+}
+
+pub(crate) fn rack(words: &[String]) -> Option<Job>
+    ensures job { result ≡ option_and_then given (rack_job (map string_bytes words.now)) }
+    ensures in_range { IfSome result IsInRange }
+{
+    let [base] = words else {
+        return None;
+    };
+    let base = base_of(base.as_str())?;
+    Some(Job::Rack { base })
 }

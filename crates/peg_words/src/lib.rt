@@ -8,7 +8,7 @@ ghost use Rattle.peg_words.specs.Jobs.{job_of, count_of, IsInRange};
 ghost use Rattle.peg_words.specs.Arguments.{is_dashed};
 
 use arguments::exactly;
-use jobs::{ask, control, plain, server, soak, switch};
+use jobs::{ask, control, plain, rack, server, soak, switch};
 use peg_name::Config;
 pub use role::Role;
 use std::alloc::{AllocError, Global};
@@ -33,6 +33,10 @@ pub enum Job {
     Soak {
         events: u64,
         start: u64,
+    },
+    /// Run a whole rack over a wire. The ports of its nodes begin at `base`, from 1,024 to 60,000.
+    Rack {
+        base: u16,
     },
     /// Run one node of a rack over a wire. The ports of the nodes begin at `base`, from 1,024 to
     /// 60,000.
@@ -116,6 +120,7 @@ fn count_of(name: &str) -> Option<usize>
         "server" => Some(4),
         "control" => Some(4),
         "ask" => Some(6),
+        "rack" => Some(1),
         _ => None,
     }
 }
@@ -133,6 +138,7 @@ fn job_by(name: &str, words: &[String]) -> Option<Job>
         "server" => server(words),
         "control" => control(words),
         "ask" => ask(words),
+        "rack" => rack(words),
         _ => None,
     }
 }

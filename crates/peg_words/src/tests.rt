@@ -12,9 +12,10 @@ fn words_of(alloc: Global, texts: &[&str]) -> Result<Vec<String>, AllocError> {
 }
 
 // Words, and what their job is shown as.
-const JOBS: [(&[&str], &str); 8] = [
+const JOBS: [(&[&str], &str); 9] = [
     (&["replay"], "Ok(Replay)"),
     (&["check"], "Ok(Check)"),
+    (&["rack", "7000"], "Ok(Rack { base: 7000 })"),
     (
         &["soak", "20000", "7"],
         "Ok(Soak { events: 20000, start: 7 })",
@@ -68,7 +69,7 @@ fn refuses(rt: &impl Abort, alloc: Global, cases: &[&[&str]]) -> Result<(), Fail
 
 #[test]
 fn other_words_are_no_command(rt: HostRuntime) -> Result<(), Fail> {
-    let cases: [&[&str]; 24] = [
+    let cases: [&[&str]; 27] = [
         &[],
         &[""],
         &["Replay"],
@@ -81,6 +82,9 @@ fn other_words_are_no_command(rt: HostRuntime) -> Result<(), Fail> {
         &["replay", "-"],
         &["replay", "--"],
         &["check", "replay"],
+        &["rack"],
+        &["rack", "1023"],
+        &["rack", "7000", "1"],
         &["soak"],
         &["soak", "5"],
         &["soak", "5", "7", "7"],
@@ -125,7 +129,7 @@ fn other_arguments_are_no_node(rt: HostRuntime) -> Result<(), Fail> {
         &["ask", "7000", "1:1:1:1:1:1", "1", "1", "2", "1"],
         &["ask", "7000", "1:1:1:1:1:1", "0", "0", "2", "1"],
         &["ask", "7000", "1:1:1:1:1:1", "0", "1", "2"],
-        &["rack", "7000"],
+        &["audit"],
     ];
     refuses(&rt, rt.alloc(), &cases)
 }

@@ -89,6 +89,16 @@ spelled_in_flight rack (item ∷ items) law all =
     (sym (law item.1 rack.format (packet_read item.1) all.0.reads).spelled)
     ∙ ap (λ rest. item ∷ rest) (spelled_in_flight rack items law all.1)
 
+pub nodes_in_flight :
+    (rack : Rack) (items : List (Node × List ℕ))
+    → AllByRecursion (IsFlown rack) items
+    → AllByRecursion (λ item. is_in_rack rack item.0 ≡ true) items
+nodes_in_flight rack [] all = tt
+nodes_in_flight rack (item ∷ items) all = (
+  and_right (announces_in rack (packet_read item.1)) (is_in_rack rack item.0) all.0.goes,
+  nodes_in_flight rack items all.1,
+)
+
 -- ---- an outbox before and after a step
 
 pub record Posted (rack : Rack) (sent : List (Node × Packet)) (post0 post1 : Outbox) : Type 0 where

@@ -1,9 +1,11 @@
 //! The rack as one machine: its nodes, the packets in flight and the operations so far.
 #![tactic(auto)]
 
-ghost use Rattle.std.specs.Prelude.{◌≡◌, ◌≢◌, ◌<◌, ◌≤◌, AllPairs, length, map, slice_get, Some};
+ghost use Rattle.std.specs.Prelude.{◌≡◌, ◌≢◌, ◌<◌, ◌≤◌, AllPairs, length, map, take};
 ghost use Rattle.std.specs.Prelude.{IfOk, IfErr, OnOk, Err, true, false, ℕ};
+ghost use Rattle.std.specs.List.{AllByRecursion};
 ghost use Rattle.peg_history.specs.Groups.{key_orders};
+ghost use Rattle.peg_packet.specs.Nodes.{is_in_rack};
 ghost use Rattle.peg_model.specs.Datagrams.{spelled};
 ghost use Rattle.peg_model.specs.Schedule.{EventInRack};
 ghost use Rattle.peg_model.specs.World.{World as BookWorld, history, start, step};
@@ -21,7 +23,8 @@ use peg_event::Said;
 pub use peg_event::{Event, Line};
 use peg_history::{History, KeyOrder};
 use peg_law::{answers_full_rounds_at_places, keeps_worlds_of_runs};
-use peg_name::{Config, Key, Node, OutOfMemory};
+use peg_name::{Config, Key, OutOfMemory};
+use peg_pool::Soup;
 use ranges::{event_is_in_range, keys_are_in_range};
 use std::alloc::Global;
 use std::marker::Model;
@@ -126,13 +129,14 @@ impl World {
         self.machine.packets()
     }
 
-    /// The packet of a number: its node and its bytes.
-    pub fn packet(&self, number: u32) -> (Node, &[u8])
-        requires { number < length self.now.world.packets }
-        ensures { slice_get (spelled self.now.world.rack.format self.now.world.packets) number
-            ≡ Some (result.0, result.1.now) }
+    /// The packets in flight, by their numbers: the node of the rack that each is for, and its bytes.
+    pub fn soup(&self) -> &Soup
+        ensures items { result.now.items
+            ≡ spelled self.now.world.rack.format self.now.world.packets }
+        ensures nodes { AllByRecursion (λ item. is_in_rack self.now.world.rack item.0 ≡ true)
+            result.now.items }
     {
-        self.machine.packet(number)
+        self.machine.soup()
     }
 
     /// The operations so far.
@@ -183,8 +187,8 @@ impl World {
     }
 
     /// One event at a line of the schedule, whose place is above that of the line before: then
-    /// `line` is its line, which says nothing of out of place. What the event names is in the
-    /// rack. `TooMuch` exactly at the 1,000,001st event, where more than 200,000 packets would be
+    /// `line` is its line, which says nothing of out of place, and what it sent has the next numbers.
+    /// What the event names is in the rack. `TooMuch` exactly at the 1,000,001st event, where more than 200,000 packets would be
     /// in flight, and for good after either; the place, the packets and the operations are then as
     /// before. After `OutOfMemory` the world is as before: the room for what a step may send and
     /// note is made before its node steps.
@@ -194,6 +198,8 @@ impl World {
         ensures ok { OnOk result (self.new ≡ stepped self.old place event.now) }
         ensures within { OnOk result (is_past self.old place event.now ≡ false) }
         ensures at { OnOk result (self.new.world.place ≡ place) }
+        ensures grows { OnOk result (take (length self.old.world.packets) self.new.world.packets
+            ≡ self.old.world.packets) }
         ensures rack { self.new.world.rack ≡ self.old.world.rack }
         ensures halt { IfErr result (λ halt. Halted halt self.old self.new) }
         ensures past { result ≡ Err Halt.TooMuch → is_past self.old place event.now ≡ true }

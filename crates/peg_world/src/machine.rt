@@ -1,9 +1,11 @@
 //! The rack as one machine, in the middle of an event or between two.
-ghost use Rattle.std.specs.Prelude.{◌≡◌, ◌≤◌, ◌<◌, ◌+◌, ◌++◌, [], length, map, slice_get, Some, IfOk};
+ghost use Rattle.std.specs.Prelude.{◌≡◌, ◌≤◌, ◌<◌, ◌+◌, ◌++◌, [], length, map, IfOk};
 ghost use Rattle.std.specs.Prelude.{OnOk, IsOk, true, nat_lt};
 ghost use Rattle.peg_history.specs.Groups.{key_orders};
 ghost use Rattle.peg_model.specs.Datagrams.{spelled};
 ghost use Rattle.peg_model.specs.Packet.{are_distinct};
+ghost use Rattle.std.specs.List.{AllByRecursion};
+ghost use Rattle.peg_packet.specs.Nodes.{is_in_rack};
 ghost use Rattle.peg_model.specs.World.{history, start, numbers};
 ghost use Rattle.peg_world.specs.Midway.{Closes};
 
@@ -12,7 +14,7 @@ use crate::nodes::Nodes;
 use peg_grammar::reads_back_what_is_spelled;
 use peg_history::{History, KeyOrder};
 use peg_ledger::{Fences, Operations, Promotions};
-use peg_name::{Config, Key, Node, OutOfMemory};
+use peg_name::{Config, Key, OutOfMemory};
 use peg_pool::Soup;
 use std::alloc::Global;
 use std::marker::Model;
@@ -68,15 +70,16 @@ impl Machine {
         self.soup.len()
     }
 
-    /// The packet of a number: its node and its bytes.
-    #[tactic(auto, using(crate::proofs::Flying::spelled_in_flight))]
-    pub(crate) fn packet(&self, number: u32) -> (Node, &[u8])
-        requires { number < length self.now.world.packets }
-        ensures { slice_get (spelled self.now.world.rack.format self.now.world.packets) number
-            ≡ Some (result.0, result.1.now) }
+    /// The packets in flight, by their numbers.
+    #[tactic(auto, using(crate::proofs::Flying::spelled_in_flight, crate::proofs::Flying::nodes_in_flight))]
+    pub(crate) fn soup(&self) -> &Soup
+        ensures items { result.now.items
+            ≡ spelled self.now.world.rack.format self.now.world.packets }
+        ensures nodes { AllByRecursion (λ item. is_in_rack self.now.world.rack item.0 ≡ true)
+            result.now.items }
     {
         reads_back_what_is_spelled();
-        self.soup.get(number)
+        &self.soup
     }
 
     /// The operations so far.

@@ -5,7 +5,6 @@ use Rattle.peg_model.specs.Schedule.{fed}
 use Rattle.peg_model.specs.Trace.{tail_text}
 use Rattle.peg_session.proofs.Passing.{passes_then, passes_none}
 use Rattle.peg_print.specs.Tail.{key_order}
-use Rattle.peg_replay.proofs.Orders.{orders_as}
 use Rattle.peg_replay.proofs.Stepping.{end_on}
 use Rattle.peg_replay.proofs.play.Play.end.Goals as goal
 
@@ -35,7 +34,7 @@ returns-then-not-push_tail-clause-took g c =
           end_on s.rack.0 s.rack.1 s.world s.is_over (s.place + 1) c.history.result.now.ops
           (map key_order c.deref.result.now) c.requires.on (omega (arith, c.requires.tied.count))
           c.history.ensures
-          (orders_as s.world.world c.deref.result.now (c.deref.ensures.value ∙ c.in-Ok.ensures.orders));
+          (c.prints_orders_of_the_book.ensures s.world.world c.deref.result.now (c.deref.ensures.value ∙ c.in-Ok.ensures.orders));
       over =
           passes_then false (fed (decimal (s.place + 1) ++ codes " end")) tail c.args.page.now
           c.push_end.new.page c.push_tail.new.page (g.K.Sink.held c.args.sink.now)
@@ -53,7 +52,7 @@ returns-clause-took g c =
           end_on s.rack.0 s.rack.1 s.world s.is_over (s.place + 1) c.history.result.now.ops
           (map key_order c.deref.result.now) c.requires.on (omega (arith, c.requires.tied.count))
           c.history.ensures
-          (orders_as s.world.world c.deref.result.now (c.deref.ensures.value ∙ c.in-Ok.ensures.orders));
+          (c.prints_orders_of_the_book.ensures s.world.world c.deref.result.now (c.deref.ensures.value ∙ c.in-Ok.ensures.orders));
       over =
           passes_then true (fed (decimal (s.place + 1) ++ codes " end")) tail c.args.page.now
           c.push_end.new.page c.push_tail.new.page (g.K.Sink.held c.args.sink.now)
