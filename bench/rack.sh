@@ -18,7 +18,7 @@ run() {
     /usr/bin/time -q -f '%e %U %S' -o "$made/time" "$program" rack "$base" < "$1" > "$made/trace"
     "$program" check < "$made/trace"
     awk '
-        FNR == NR { seconds = $1; user = $2; system = $3; next }
+        FNR == NR { seconds = $1; user = $2; kernel = $3; next }
         / end foreign / { foreign = $4 }
         /^history / { operations = $2; tail = 1 }
         tail && / answered / { answered += 1 }
@@ -26,7 +26,7 @@ run() {
             printf "%d of %d operations answered, %.0f operations a second", answered, operations,
                 operations / seconds
             printf ", %.0f %% of the time in system calls, %d foreign datagrams\n",
-                100 * system / (user + system), foreign
+                100 * kernel / (user + kernel), foreign
         }' "$made/time" "$made/trace"
 }
 

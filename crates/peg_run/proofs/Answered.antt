@@ -1,7 +1,8 @@
 -- What each status says, of how the replay ended.
 use Rattle.std.proofs.Common.{◌≡◌, ◌⊎◌, ℕ, Option, Some, None, List, refl, subst, inl, inr}
 use Rattle.peg_model.specs.Trace.{RunText, replay_text}
-use Rattle.peg_io.specs.Outside.{Tells, Rose}
+use Rattle.peg_io.specs.Outside.{Tells, WritesSome, Rose}
+use Rattle.peg_session.specs.Pages.{AppendsPart}
 use Rattle.peg_run.specs.Front.{HasSchedule}
 use Rattle.peg_session.specs.Alike.{WhereTold}
 use Rattle.peg_run.specs.Ends.{IsDone, IsCut, IsUnread, IsAhead, Ended, HasCause}
@@ -58,11 +59,11 @@ done_tells None (Some rest) held held' done = absurd done.read
 done_tells (Some input) (Some rest) held held' done = tt
 
 cut_tells :
-    (left left' held held' : Option (List ℕ)) → IsCut left left' held held'
-    → Tells left left' Whatever
-cut_tells left None held held' cut = tt
-cut_tells None (Some rest) held held' cut = absurd cut.read
-cut_tells (Some input) (Some rest) held held' cut = tt
+    (W : List ℕ → List ℕ → List ℕ → Type 0) (left left' held held' : Option (List ℕ))
+    → IsCut W left left' held held' → Tells left left' Whatever
+cut_tells W left None held held' cut = tt
+cut_tells W None (Some rest) held held' cut = absurd cut.read
+cut_tells W (Some input) (Some rest) held held' cut = tt
 
 unread_tells :
     (left left' held held' : Option (List ℕ)) → IsUnread left left' held held'
@@ -86,7 +87,7 @@ complete_of left left' held held' status.Done reads reads' writes writes' ended 
     (λ b n _ has r w. inl refl) (done_tells left left' held held' ended.0)
 complete_of left left' held held' status.OutOfMemory reads reads' writes writes' ended cause =
     Tells_as left left' Whatever (IsComplete status.OutOfMemory reads reads' writes writes')
-    (λ b n _ has r w. inr refl) (cut_tells left left' held held' ended)
+    (λ b n _ has r w. inr refl) (cut_tells AppendsPart left left' held held' ended)
 complete_of left left' held held' status.Usage reads reads' writes writes' ended cause =
     absurd ended
 complete_of left left' held held' status.ReadFault reads reads' writes writes' ended cause =
@@ -94,7 +95,7 @@ complete_of left left' held held' status.ReadFault reads reads' writes writes' e
     (λ b n _ has r w. absurd (r cause)) (unread_tells left left' held held' ended)
 complete_of left left' held held' status.WriteFault reads reads' writes writes' ended cause =
     Tells_as left left' Whatever (IsComplete status.WriteFault reads reads' writes writes')
-    (λ b n _ has r w. absurd (w cause)) (cut_tells left left' held held' ended.0)
+    (λ b n _ has r w. absurd (w cause)) (cut_tells WritesSome left left' held held' ended.0)
 complete_of left left' held held' status.WireFault reads reads' writes writes' ended cause =
     absurd ended
 complete_of left left' held held' (status.BadInput line) reads reads' writes writes' ended cause =

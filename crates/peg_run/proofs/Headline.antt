@@ -42,7 +42,7 @@ done_shows left left' held held' histories texts done =
         × AreTold plain.trace plain.ops
     told =
         texts done.rack done.keys done.events
-        (histories done.rack done.keys done.events done.begins done.lines)
+        (histories done.rack done.keys done.events done.spelled.0 done.spelled.1)
 
 pub histories_told :
     (left left' held held' : Option (List ℕ)) (s : Status) → Histories → Texts

@@ -6,7 +6,9 @@ mod Schedules
 mod Answered
 mod Headline
 mod Limits
+mod Unwired
 mod Replayed
+mod ReplayEnds
 pub mod Verdicts
 pub mod Soaks
 mod RoleEnds

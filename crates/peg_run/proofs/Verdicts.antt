@@ -1,6 +1,6 @@
 -- How the session of `check` ended, as `run` says it.
-use Rattle.std.proofs.Common.{◌≡◌, ◌≢◌, ◌⊎◌, ℕ, Bool, true, false, Option, None, List, []}
-use Rattle.std.proofs.Common.{refl, sym, subst, inl, inr}
+use Rattle.std.proofs.Common.{◌≡◌, ℕ, Bool, true, false, Option, None, List, []}
+use Rattle.std.proofs.Common.{refl, sym, subst}
 use Rattle.std.proofs.Common.{◌∷◌, ◌++◌, length, ap, arith, codes, decimal, slice_index}
 use Rattle.std.specs.Prelude.{◌==◌, ◌↔◌, if◌then◌else◌}
 use Rattle.std.specs.List.{AllByRecursion}
@@ -13,16 +13,16 @@ use Rattle.peg_model.specs.Schedule.{fed}
 use Rattle.peg_io.specs.Outside.{Tells}
 use Rattle.peg_io.proofs.Telling.{Tells_as}
 use Rattle.peg_meaning.specs.Session as session
-use Rattle.peg_meaning.specs.Session.{Inputs, Begin, More, Input, Came, IsTaken, IsTurn, after}
-use Rattle.peg_meaning.specs.Session.{came_of, state_of, text_of, entries_of, saying}
+use Rattle.peg_meaning.specs.Session.{Inputs, Input, IsTaken, IsTurn, after}
+use Rattle.peg_meaning.specs.Session.{state_of, text_of, entries_of, saying}
 use Rattle.peg_meaning.specs.CheckWord.{CheckEntry, Checked, Checker, Stage, Skipping, Reading}
 use Rattle.peg_meaning.specs.CheckWord.{Finished, judges, check_start, check_on, check_want}
 use Rattle.peg_word_law.specs.Judged.{IsJudged, HasJudged}
-use Rattle.peg_session.specs.Ends as ends
 use Rattle.peg_session.specs.Ends.{Told, told, Ended, MayEnd, IsRead, IsNear}
 use Rattle.peg_session.specs.declared.End.{End}
 use Rattle.peg_session.specs.declared.End.TheVariants as end
 use Rattle.peg_session.proofs.Standings.{not_begun}
+use Rattle.peg_run.proofs.Unwired as unwired
 use Rattle.peg_run.specs.Status.{status_of}
 use Rattle.peg_run.specs.Verdicts.{EndsAs, IsYes, IsVerdict}
 use Rattle.peg_run.specs.declared.Status.TheVariants as status
@@ -117,33 +117,11 @@ step_unbound s (session.Datagram bytes) = refl
 step_unbound s session.Quiet = refl
 step_unbound s session.Tick = refl
 
-unbound : (inputs : Inputs CheckEntry) → (came_of judges check_start inputs).binds ≡ []
-unbound Begin = refl
-unbound (More inputs x) = step_unbound (state_of judges check_start inputs) x
-
-heard : (before now : Told) → Ended judges check_start before now end.WireFault → ⊥
-heard before now unheard = by unheard.carried
-  where
-    by : (IsTurn (check_want (state_of judges check_start unheard.inputs).stage)
-        × ends.IsCarried judges check_start before now unheard.inputs)
-        ⊎ (((came_of judges check_start unheard.inputs).binds ≢ [])
-        × Tells before.carried now.carried
-        (λ c n. ends.BindsSome (came_of judges check_start unheard.inputs).binds
-        (session.heard_of judges check_start before.slots c unheard.inputs) n))
-        → ⊥
-    by (inl turn) = no_turn (state_of judges check_start unheard.inputs).stage turn.0
-    by (inr some) = some.0 (unbound unheard.inputs)
-
 pub no_wire_fault :
     (before now : Told) (e : End) → Ended judges check_start before now e
     → status_of e ≡ status.WireFault → ⊥
-no_wire_fault before now end.Done ended is = cc
-no_wire_fault before now end.OutOfMemory ended is = cc
-no_wire_fault before now end.ReadFault ended is = cc
-no_wire_fault before now end.WriteFault ended is = cc
-no_wire_fault before now end.WireFault ended is = heard before now ended
-no_wire_fault before now (end.BadInput line) ended is = cc
-no_wire_fault before now (end.TooMuch line) ended is = cc
+no_wire_fault =
+    unwired.no_wire_fault judges check_start (λ s. no_turn s.stage) step_unbound refl
 
 pub no_usage : (e : End) → status_of e ≡ status.Usage → ⊥
 no_usage end.Done is = cc

@@ -1,9 +1,10 @@
 -- What holds where `replay` ends with a status. The source and the sink are each seen as what they
--- told when the call began and when it ends.
+-- told when the call began and when it ends. The rack, its keys and the events of each end are such
+-- as lines spell, also where the source doesn't tell its bytes.
 --     job_in words      the job that the words call for
 --     ShowsRegisters      what was appended shows one plain register for each key, and each line of
 --         it that says so answers one operation
---     IsDone, IsBadAt, IsTooMuchAt, IsUnread, IsCut      the ends
+--     IsDone, IsBadAt, IsTooMuchAt, IsUnread, IsUnwritten, IsOutOfMemory      the ends
 --     IsNearLine, IsNearBad, IsAhead      how far the bytes that were taken go
 --     Ended status      all that holds at this status, and that a schedule within the limits
 --         doesn't end with a refusal
@@ -11,21 +12,19 @@
 use Rattle.std.specs.Prelude.{◌≡◌, ◌≤◌, ◌<◌, ◌+◌, ℕ, Bool, true, Option, List, []}
 use Rattle.std.specs.Prelude.{◌∷◌, ◌++◌, length, drop, map, if◌then◌else◌, codes, String}
 use Rattle.std.specs.Prelude.{string_bytes}
-use Rattle.std.specs.List.{AllByRecursion}
 use Rattle.std.specs.declared.alloc.Global.{Global}
 use Rattle.peg_name.specs.Name.{Rack, line_most}
 use Rattle.peg_event.specs.declared.Event.{Event}
-use Rattle.peg_model.specs.Schedule.{IsStart, IsEventLine}
+use Rattle.peg_model.specs.Schedule.{IsEventLine}
 use Rattle.peg_model.specs.Trace.{replay_text}
 use Rattle.peg_model.specs.Headline.{IsLinearizable}
-use Rattle.peg_law.specs.Lines.{IsLine}
 use Rattle.peg_trace.specs.Answers.{AreTold}
-use Rattle.peg_io.specs.Outside.{Tells, Appends, Rose}
-use Rattle.peg_io.specs.Lines.{line_of, past_line, HasNoFeed}
+use Rattle.peg_io.specs.Outside.{Tells, Appends, WritesSome, Rose}
+use Rattle.peg_io.specs.Lines.{line_of, past_line, HasNoFeed, AreFed}
 use Rattle.peg_session.specs.Pages.{AppendsPart, AppendsMore}
 use Rattle.peg_session.specs.Ends.{IsNear}
 use Rattle.peg_run.specs.Front.{Front, Lines, text_of, whole_of, count_of, limit_of, IsWithin}
-use Rattle.peg_run.specs.Front.{IsRead, IsRefused, HasSchedule}
+use Rattle.peg_run.specs.Front.{AreSpelled, IsRead, IsRefused, HasSchedule}
 use Rattle.peg_words.specs.Jobs.{job_of}
 use Rattle.peg_words.specs.declared.Job.{Job}
 use Rattle.peg_run.specs.declared.Status.{Status}
@@ -42,14 +41,12 @@ ShowsRegisters before now =
 
 -- ---- the ends
 
--- the input was read to the line end, and the whole text was appended. The rack, its keys and the
--- events are such as lines spell, also where the source doesn't tell its bytes
+-- the input was read to the line end, and the whole text was appended
 pub record IsDone (left left' held held' : Option (List ℕ)) : Type 0 where
   pub rack : Rack
   pub keys : List (List ℕ)
   pub events : List Event
-  pub begins : IsStart rack keys
-  pub lines : AllByRecursion (IsLine rack) events
+  pub spelled : AreSpelled (Lines rack keys events)
   pub within : IsWithin (Lines rack keys events)
   pub read : Tells left left'
       (λ input rest. (tail : List ℕ) × IsRead (Lines rack keys events) input tail
@@ -60,6 +57,7 @@ pub record IsDone (left left' held held' : Option (List ℕ)) : Type 0 where
 pub record IsBadAt (line : ℕ) (left left' held held' : Option (List ℕ)) : Type 0 where
   pub front : Front
   pub place : line ≡ count_of front + 1
+  pub spelled : AreSpelled front
   pub within : IsWithin front
   pub read : Tells left left'
       (λ input rest. (tail : List ℕ) × IsRead front input tail × IsRefused front tail)
@@ -72,6 +70,7 @@ pub record IsTooMuchAt (line : ℕ) (left left' held held' : Option (List ℕ)) 
   pub events : List Event
   pub e : Event
   pub place : line ≡ length events + 2
+  pub spelled : AreSpelled (Lines rack keys (events ++ e ∷ []))
   pub within : IsWithin (Lines rack keys events)
   pub past : IsWithin (Lines rack keys (events ++ e ∷ [])) → ⊥
   pub read : Tells left left'
@@ -79,24 +78,38 @@ pub record IsTooMuchAt (line : ℕ) (left left' held held' : Option (List ℕ)) 
       × IsEventLine rack (line_of tail) e × (length (line_of tail) ≤ line_most rack.format))
   pub written : Tells held held' (Appends (text_of (Lines rack keys events)))
 
--- all whole lines that were read are written, and what was taken behind them is a part of a line
+-- all whole lines that were read are written, each with its line feed, and what was taken behind
+-- them is a part of a line
 pub record IsUnread (left left' held held' : Option (List ℕ)) : Type 0 where
   pub front : Front
+  pub spelled : AreSpelled front
   pub within : IsWithin front
   pub read : Tells left left'
       (λ input rest. (part : List ℕ) × IsRead front input (part ++ rest) × HasNoFeed part)
+  pub fed : Tells left left' (λ input rest. AreFed (count_of front) input)
   pub written : Tells held held' (Appends (text_of front))
 
--- a first part is written of the text of the lines that were read, or of the whole text
-pub record IsCut (left left' held held' : Option (List ℕ)) : Type 0 where
+-- so much is written of the text of the lines that were read, or of the whole text
+pub record IsCut (W : List ℕ → List ℕ → List ℕ → Type 0)
+    (left left' held held' : Option (List ℕ)) : Type 0 where
   pub front : Front
+  pub spelled : AreSpelled front
   pub within : IsWithin front
   pub is_ended : Bool
   pub read : Tells left left'
       (λ input rest. (tail : List ℕ) × IsRead front input tail
       × (is_ended ≡ true → line_of tail ≡ codes "end"))
-  pub written : Tells held held'
-      (AppendsPart (if is_ended then whole_of front else text_of front))
+  pub written : Tells held held' (W (if is_ended then whole_of front else text_of front))
+
+-- fewer than all bytes of it
+abbrev pub IsUnwritten :
+    Option (List ℕ) → Option (List ℕ) → Option (List ℕ) → Option (List ℕ) → Type 0
+IsUnwritten left left' held held' = IsCut WritesSome left left' held held'
+
+-- a first part of it
+abbrev pub IsOutOfMemory :
+    Option (List ℕ) → Option (List ℕ) → Option (List ℕ) → Option (List ℕ) → Type 0
+IsOutOfMemory left left' held held' = IsCut AppendsPart left left' held held'
 
 -- ---- how far the bytes that were taken go
 
@@ -132,6 +145,7 @@ pub record IsNearTooMuchAt (line : ℕ) (left left' : Option (List ℕ)) : Type 
 -- first that isn't
 pub record IsNearUnwritten (left left' held held' : Option (List ℕ)) : Type 0 where
   pub front : Front
+  pub spelled : AreSpelled front
   pub near : Tells left left' (IsNearLine front)
   pub written : Tells held held' (AppendsMore (text_of front))
 
@@ -152,11 +166,11 @@ abbrev pub Ended :
     Status → Option (List ℕ) → Option (List ℕ) → Option (List ℕ) → Option (List ℕ) → Type 0
 Ended status.Done left left' held held' =
     IsDone left left' held held' × IsNearDone left left'
-Ended status.OutOfMemory left left' held held' = IsCut left left' held held'
+Ended status.OutOfMemory left left' held held' = IsOutOfMemory left left' held held'
 Ended status.Usage left left' held held' = ⊥
 Ended status.ReadFault left left' held held' = IsUnread left left' held held'
 Ended status.WriteFault left left' held held' =
-    IsCut left left' held held' × IsNearUnwritten left left' held held'
+    IsUnwritten left left' held held' × IsNearUnwritten left left' held held'
 Ended status.WireFault left left' held held' = ⊥
 Ended (status.BadInput line) left left' held held' =
     IsBadAt line left left' held held' × IsNearBadAt line left left'

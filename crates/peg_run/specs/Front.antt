@@ -4,6 +4,7 @@
 --     count_of front      how many lines they are
 --     limit_of front      how many bytes the next line may have
 --     IsWithin front      the events and their packets are within the limits
+--     AreSpelled front      the rack, its keys and the events are such as lines spell
 --     AreLinesOf P limit events input tail      the input begins with a line for each event, as P
 --         says, and the tail is past them
 --     IsRead front input tail      the input begins with these lines, and the tail is past them
@@ -11,12 +12,14 @@
 --     HasSchedule input      the input begins with a schedule, and its run is within the limits
 use Rattle.std.specs.Prelude.{◌≡◌, ◌≢◌, ◌⊎◌, ◌≤◌, ◌<◌, ◌+◌, ℕ, List, [], ◌∷◌, ◌++◌, length}
 use Rattle.std.specs.Prelude.{codes}
+use Rattle.std.specs.List.{AllByRecursion}
 use Rattle.peg_name.specs.Name.{Rack, line_most}
 use Rattle.peg_event.specs.declared.Event.{Event}
 use Rattle.peg_event.specs.declared.Line.{Line}
 use Rattle.peg_model.specs.World.{World, start, run}
-use Rattle.peg_model.specs.Schedule.{IsRackLine, IsEventLine, Schedule, fed}
+use Rattle.peg_model.specs.Schedule.{IsStart, IsRackLine, IsEventLine, Schedule, fed}
 use Rattle.peg_model.specs.Trace.{lines_text, replay_text}
+use Rattle.peg_law.specs.Lines.{IsLine}
 use Rattle.peg_io.specs.Lines.{line_of, past_line}
 
 pub data Front : Type 0 where
@@ -46,6 +49,10 @@ abbrev pub IsWithin : Front → Type 0
 IsWithin NoLine = Unit {0}
 IsWithin (Lines rack keys events) =
     (length events ≤ 1000000) × (length (ran rack keys events).0.packets ≤ 200000)
+
+abbrev pub AreSpelled : Front → Type 0
+AreSpelled NoLine = Unit {0}
+AreSpelled (Lines rack keys events) = IsStart rack keys × AllByRecursion (IsLine rack) events
 
 -- ---- lines that are accepted
 

@@ -15,8 +15,8 @@ ghost use Rattle.peg_run.specs.Racked.{ShowsHistories};
 ghost use Rattle.peg_run.specs.Status.{code_of, status_text, status_of};
 ghost use Rattle.peg_run.specs.Roles.{EndsNode, TakesTurns, ReadsLines, IsOffline};
 ghost use Rattle.peg_run.specs.Front.{HasSchedule};
-ghost use Rattle.peg_run.specs.Ends.{job_in, IsDone, IsBadAt, IsTooMuchAt, IsUnread, IsCut};
-ghost use Rattle.peg_run.specs.Ends.{IsAhead, ShowsRegisters, Ended, HasCause};
+ghost use Rattle.peg_run.specs.Ends.{job_in, IsDone, IsBadAt, IsTooMuchAt, IsUnread};
+ghost use Rattle.peg_run.specs.Ends.{IsUnwritten, IsOutOfMemory, IsAhead, ShowsRegisters, Ended, HasCause};
 
 use nodes::run_node;
 use peg_io::{Sink, Source, Wire};
@@ -214,15 +214,17 @@ pub fn run<S: Source, K: Sink, W: Wire>(
         → result ≡ Status.TooMuch line
         → IsTooMuchAt line (S.left source.old) (S.left source.new)
         (K.held sink.old) (K.held sink.new) }
-    // ReadFault: the text of all whole lines that were read was appended.
+    // ReadFault: the text of all whole lines that were read was appended, and each of them had its
+    // line feed.
     ensures unread { job_in words.now ≡ Some Job.Replay → result ≡ Status.ReadFault
         → IsUnread (S.left source.old) (S.left source.new) (K.held sink.old) (K.held sink.new) }
-    // WriteFault: a first part of the text was appended.
+    // WriteFault: fewer than all bytes of the text were appended.
     ensures unwritten { job_in words.now ≡ Some Job.Replay → result ≡ Status.WriteFault
-        → IsCut (S.left source.old) (S.left source.new) (K.held sink.old) (K.held sink.new) }
+        → IsUnwritten (S.left source.old) (S.left source.new) (K.held sink.old) (K.held sink.new) }
     // OutOfMemory: a first part of the text was appended.
     ensures no_memory { job_in words.now ≡ Some Job.Replay → result ≡ Status.OutOfMemory
-        → IsCut (S.left source.old) (S.left source.new) (K.held sink.old) (K.held sink.new) }
+        → IsOutOfMemory (S.left source.old) (S.left source.new)
+        (K.held sink.old) (K.held sink.new) }
     // Little more was taken than the lines that the status speaks of.
     ensures ahead { job_in words.now ≡ Some Job.Replay → IsAhead result (S.left source.old) (S.left source.new)
         (K.held sink.old) (K.held sink.new) }

@@ -4,7 +4,7 @@ use Rattle.peg_session.specs.Ends.{Ended, told}
 use Rattle.peg_session.specs.declared.End.{End}
 use Rattle.peg_run.specs.Ends.{HasCause}
 use Rattle.peg_run.specs.declared.Status.{Status}
-use Rattle.peg_run.proofs.Replayed.{cause_of}
+use Rattle.peg_run.proofs.ReplayEnds.{cause_of}
 use Rattle.peg_run.proofs.Verdicts.{verdict_of_done, no_wire_fault, no_usage, done_by}
 use Rattle.peg_run.proofs.judge_history.Goals as goal
 

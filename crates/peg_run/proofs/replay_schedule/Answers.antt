@@ -1,7 +1,7 @@
 use Rattle.std.proofs.Common.{sym, subst, None}
 use Rattle.peg_run.specs.Ends.{Ended, HasCause}
 use Rattle.peg_run.specs.declared.Status.{Status}
-use Rattle.peg_run.proofs.Replayed.{ended_as_replay, cause_of}
+use Rattle.peg_run.proofs.ReplayEnds.{ended_as_replay, cause_of}
 use Rattle.peg_run.proofs.replay_schedule.Goals as goal
 
 pub returns-clause-ended : goal.returns-clause-ended
