@@ -1,13 +1,16 @@
 //! The program `peg`: its words, its standard input and its standard output, and a wire of UDP
-//! sockets, which a word binds where it needs them.
+//! sockets, which a word binds where it needs them. On a terminal it says which words there are.
 #![tactic(auto)]
 
 use peg_io::{StdSink, StdSource, UdpWire};
 use peg_run::{Status, run};
 use std::alloc::Global;
 use std::env::{self, Env};
-use std::io;
+use std::io::{self, IsTerminal};
 use std::process::ExitCode;
+use usage::WORDS;
+
+mod usage;
 
 fn main(rt: HostRuntime) -> ExitCode {
     let status = match words_given(&rt) {
@@ -26,6 +29,9 @@ fn main(rt: HostRuntime) -> ExitCode {
     if status != Status::Done {
         // Where standard error is closed, the exit status alone says what happened.
         let _ = eprintln!(rt; "{status}");
+    }
+    if status == Status::Usage && rt.stderr().is_terminal() {
+        let _ = eprintln!(rt; "{WORDS}");
     }
     ExitCode::from(status.code())
 }

@@ -28,8 +28,6 @@ mod outcomes;
 mod plans;
 mod report;
 mod send;
-#[cfg(test)]
-mod tests;
 
 /// What a controller knows of its rack: the active switch and its epoch, the listed keys and the
 /// last report; and the commands that it orders. Its room is taken when it is made, so no later

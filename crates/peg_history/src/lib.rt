@@ -19,8 +19,6 @@ mod checking;
 mod contents;
 mod group;
 mod order;
-#[cfg(test)]
-mod tests;
 
 pub use checking::check;
 pub use group::orders_of;

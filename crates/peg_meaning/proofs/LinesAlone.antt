@@ -26,10 +26,11 @@ module _ {S E : Type 0} (m : Meaning S E) (start : Came S) where
   lines_alone lines (More inputs x) taken =
       absurd (lines (state_of m start inputs) x taken.1)
 
-  -- the list of what the lines said plays, and comes to this text
+  -- the list of what the lines said plays, and comes to this state and text
   pub record IsRead (inputs : Inputs E) : Type 0 where
     pub p : Played S
     pub is : played m 0 start.state (map Entry (entries_of inputs)) ≡ Some p
+    pub state : state_of m start inputs ≡ p.state
     pub text : text_of m start inputs ≡ start.text ++ p.text
 
   pub all_read : TakesLines → (inputs : Inputs E) → IsTaken m start inputs → IsRead inputs
@@ -43,5 +44,6 @@ module _ {S E : Type 0} (m : Meaning S E) (start : Came S) where
         is =
             subst (λ xs. played m 0 start.state xs ≡ Some h.p)
             (lines_alone lines inputs taken) h.is;
+        state = ap (state_of m start) (sym (listed_items inputs)) ∙ fold.state;
         text = ap (text_of m start) (sym (listed_items inputs)) ∙ fold.text;
       }

@@ -12,7 +12,7 @@ use Rattle.peg_text.specs.declared.event.Entry.{Entry}
 use Rattle.peg_text.specs.declared.event.Entry.TheVariants as entry
 use Rattle.peg_node.specs.Calls.{call_by, entry_calls}
 
-by_event : (e : Event) (c : Call) → call_by e ≡ Some c → e ≡ call_event c
+pub by_event : (e : Event) (c : Call) → call_by e ≡ Some c → e ≡ call_event c
 by_event (event.Promote key) c is = ap (λ (k : Call). call_event k) (same_Some _ _ is)
 by_event (event.Demote key) c is = ap (λ (k : Call). call_event k) (same_Some _ _ is)
 by_event (event.Copy key target) c is = ap (λ (k : Call). call_event k) (same_Some _ _ is)
@@ -31,7 +31,7 @@ by_event (event.GiveUp client) c is = absurd (none-some _ is)
 by_event (event.Deliver number pick) c is = absurd (none-some _ is)
 by_event (event.Junk to bytes) c is = absurd (none-some _ is)
 
-by_call : (c : Call) → call_by (call_event c) ≡ Some c
+pub by_call : (c : Call) → call_by (call_event c) ≡ Some c
 by_call (Orders (command.Promote key)) = refl
 by_call (Orders (command.Demote key)) = refl
 by_call (Orders (command.Copy key target)) = refl

@@ -7,3 +7,4 @@ pub mod AskSteps
 pub mod ControlSteps
 pub mod CallLines
 pub mod ClientTexts
+pub mod Spreads

@@ -12,16 +12,17 @@ use peg_name::{Config, ServerId, SwitchId};
 use peg_packet::Post;
 use peg_text::{Entry, event_of};
 
+/// What the controller is asked for.
 #[derive(Clone, Copy)]
-pub(crate) enum Call {
+pub enum Call {
     Orders(Command),
     Retries,
     Surveys,
     Plans { promote_at: u64, demote_below: u64 },
 }
 
-// What an event has the controller do.
-fn call_by(event: &Event<'_>) -> Option<Call>
+/// What an event has the controller do. `None`: it is no event of the controller.
+pub fn call_by(event: &Event<'_>) -> Option<Call>
     ensures { option_map call_as result ≡ call_by event.now }
 {
     match event {
@@ -103,8 +104,9 @@ fn plan_said<'a>(plan: &Plan) -> Said<'a>
 impl Call {
     ghost use Rattle.peg_node.specs.Calls.{call_as};
 
-    // Has the controller do it.
-    pub(crate) fn make<'a>(&self, controller: &mut Controller, post: &mut Post) -> Said<'a>
+    /// Has the controller do it. What it sends is put in the outbox, which has room for a packet to
+    /// each client and one more. Says what the controller did.
+    pub fn make<'a>(&self, controller: &mut Controller, post: &mut Post) -> Said<'a>
         requires format { post.old.format ≡ controller.old.rack.format }
         requires room { length post.old.items + controller.old.rack.clients < post.old.slots }
         ensures answer { result ≡ (roles.call controller.old (call_as self.now)).did }

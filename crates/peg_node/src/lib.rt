@@ -4,6 +4,7 @@
 mod asked;
 mod asker;
 mod asking;
+mod balanced;
 mod calls;
 mod client;
 mod console;
@@ -15,10 +16,10 @@ mod printing;
 mod server;
 mod serving;
 mod switch;
-#[cfg(test)]
-mod tests;
 mod turning;
 
+pub use balanced::serve_balanced;
+pub use calls::{Call, call_by};
 pub use client::ask;
 pub use controller::serve_controller;
 pub use outbox::{port, room_of};

@@ -18,8 +18,6 @@ mod read;
 mod report;
 mod row;
 mod rows;
-#[cfg(test)]
-mod tests;
 mod write;
 
 pub use outcomes::{acknowledge, outcome_of};

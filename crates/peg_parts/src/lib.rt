@@ -22,8 +22,6 @@ mod parts;
 mod read;
 mod reader;
 mod spell;
-#[cfg(test)]
-mod tests;
 
 pub use collector::Collector;
 pub use parts::Parts;

@@ -16,8 +16,6 @@ mod printing;
 mod rig;
 mod serving;
 mod takes;
-#[cfg(test)]
-mod tests;
 
 /// Runs the rack that the first line of the source names. Its nodes are bound in the order
 /// controller, switches, servers, clients, at ports from `base` on; the lines behind have clients

@@ -14,6 +14,7 @@ ghost use Rattle.peg_parts.specs.Taking.{take_part, stamps_after, entries_after}
 ghost use Rattle.peg_rules.specs.Started.{started, listed_at_start};
 ghost use Rattle.peg_rules.specs.Going.{GoesTo, ComesFrom, FencesAt, OfLast};
 
+use crate::choices::goes_anywhere;
 use peg_directory::Directory;
 use peg_name::{ClientId, Config, Holders, Key, Seq, ServerId, Version, home};
 use peg_parts::{Collector, Taken};
@@ -21,9 +22,9 @@ use peg_stamp::{Stamp, Stamper};
 use std::alloc::Global;
 use std::marker::Model;
 
-#[cfg(test)]
-mod tests;
+mod choices;
 
+pub use choices::Allowed;
 pub use peg_event::{CopyFrom, FenceOf, Forward, MarkDid, Promoted};
 pub use peg_name::{Note, OutOfMemory};
 
@@ -286,7 +287,7 @@ impl Core {
         let config = self.directory.config();
         prove!(config.servers() >= 1);
         if let Some(entry) = self.directory.find(key) {
-            if entry.mark.is_none() && entry.base < version && entry.completed < version {
+            if goes_anywhere(&entry, version) {
                 let server = ServerId((pick % config.servers()) as u8);
                 return Forward::To { server, version };
             }

@@ -13,3 +13,4 @@ pub mod Verdicts
 pub mod Soaks
 mod RoleEnds
 mod RackEnds
+mod RacksEnds

@@ -5,6 +5,7 @@ use Rattle.peg_name.specs.declared.Node.TheVariants as node
 use Rattle.peg_io.specs.Outside.{Rose}
 use Rattle.peg_meaning.specs.Session.{Meaning, Came, port_of}
 use Rattle.peg_meaning.specs.Roles.{Serving, switch_word, server_word, controls, asks}
+use Rattle.peg_meaning.specs.Balance.{balanced_word}
 use Rattle.peg_session.specs.Ends as session
 use Rattle.peg_session.specs.Ends.{Told, Ended}
 use Rattle.peg_session.specs.declared.End as ending
@@ -71,6 +72,16 @@ not_run base rack (role.Switch switch turns) before = (
   record {
     ended =
         not_begun switch_word _ (port_of base (node.Switch switch) ∷ []) [] (unread before);
+    ends = tt;
+    done = λ is. absurd (cc);
+  },
+)
+not_run base rack (role.Balanced switch turns weights) before = (
+  end.OutOfMemory,
+  refl,
+  record {
+    ended =
+        not_begun balanced_word _ (port_of base (node.Switch switch) ∷ []) [] (unread before);
     ends = tt;
     done = λ is. absurd (cc);
   },

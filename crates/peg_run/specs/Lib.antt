@@ -6,3 +6,4 @@ pub mod Verdicts
 pub mod Soaks
 pub mod Roles
 pub mod Racked
+pub mod Divided

@@ -10,6 +10,7 @@ use Rattle.peg_name.specs.Name.{Rack}
 use Rattle.peg_meaning.specs.Session.{Meaning, Came}
 use Rattle.peg_meaning.specs.Roles.{Serving, switch_word, switch_start, server_word, server_start}
 use Rattle.peg_meaning.specs.Roles.{controls, control_start, asks, ask_start}
+use Rattle.peg_meaning.specs.Balance.{balanced_word, balanced_start}
 use Rattle.peg_session.specs.Ends.{Told, Ended}
 use Rattle.peg_session.specs.declared.End.{End}
 use Rattle.peg_session.specs.declared.End.TheVariants as end
@@ -23,6 +24,7 @@ use Rattle.peg_run.specs.declared.Status.{Status}
 
 abbrev pub TakesTurns : Role → Type 0
 TakesTurns (role.Switch switch turns) = Unit {0}
+TakesTurns (role.Balanced switch turns weights) = Unit {0}
 TakesTurns (role.Server server turns) = Unit {0}
 TakesTurns _ = ⊥
 
@@ -45,6 +47,9 @@ unread t = record t { left = Some [] }
 abbrev pub RunsNode : ℕ → Rack → Role → End → Told → Told → Type 0
 RunsNode base rack (role.Switch switch turns) e before now =
     ServesAs switch_word (switch_start base rack switch turns) turns e (unread before) (unread now)
+RunsNode base rack (role.Balanced switch turns weights) e before now =
+    ServesAs balanced_word (balanced_start base rack switch turns weights.items) turns e
+    (unread before) (unread now)
 RunsNode base rack (role.Server server turns) e before now =
     ServesAs server_word (server_start base rack server turns) turns e (unread before) (unread now)
 RunsNode base rack (role.Control tries waits) e before now =

@@ -7,11 +7,13 @@ ghost use Rattle.peg_model.specs.Trace.{RunText};
 ghost use Rattle.peg_io.specs.Outside.{Rose, Tells};
 ghost use Rattle.peg_meaning.specs.CheckWord.{judges, check_start};
 ghost use Rattle.peg_meaning.specs.RackWord.{serves_rack, rack_start};
+ghost use Rattle.peg_meaning.specs.Racks.{plays_racks, racks_start};
 ghost use Rattle.peg_session.specs.Alike.{WhereTold};
 ghost use Rattle.peg_session.specs.Ends.{told};
 ghost use Rattle.peg_run.specs.Verdicts.{EndsAs, IsVerdict};
 ghost use Rattle.peg_run.specs.Soaks.{Soaks};
 ghost use Rattle.peg_run.specs.Racked.{ShowsHistories};
+ghost use Rattle.peg_run.specs.Divided.{ShowsRacks};
 ghost use Rattle.peg_run.specs.Status.{code_of, status_text, status_of};
 ghost use Rattle.peg_run.specs.Roles.{EndsNode, TakesTurns, ReadsLines, IsOffline};
 ghost use Rattle.peg_run.specs.Front.{HasSchedule};
@@ -28,16 +30,12 @@ use peg_soak::soak;
 use peg_trace::shows_each_operation;
 use peg_word_law::judges_histories;
 use peg_words::{Job, Role, WordFault, read_words};
-use racks::run_rack;
+use racks::{run_rack, run_racks};
 use std::alloc::Global;
 use std::fmt;
 
 mod nodes;
 mod racks;
-#[cfg(test)]
-mod tests;
-#[cfg(test)]
-mod worked;
 
 /// How a run ended.
 #[derive(Clone, Copy, Debug, PartialEq, Eq)]
@@ -153,7 +151,8 @@ fn soak_workload<K: Sink>(alloc: Global, events: u64, start: u64, sink: &mut K) 
 /// its history and the order of each key. It takes every line of the grammar. `check` reads a
 /// history and the orders of its keys, or a whole trace, and writes the verdict on them. `soak`
 /// makes a workload, plays it and writes its numbers and the verdict on it, which is yes. `switch`,
-/// `server`, `control` and `ask` run one node of a rack over the wire, and `rack` runs all of them.
+/// `balanced`, `server`, `control` and `ask` run one node of a rack over the wire, and `rack` runs all of
+/// them. `racks` plays a schedule on several racks, among which the keys are divided.
 ///
 /// Whoever reads an order that it prints holds a register history in the hand: so the clause
 /// `linearizable` says, by the definitions of the register alone. It asks of the sink that it tells
@@ -165,7 +164,7 @@ fn soak_workload<K: Sink>(alloc: Global, events: u64, start: u64, sink: &mut K) 
 /// failed, and `WireFault` where the wire did; `OutOfMemory` where there was none for what is kept. Before the source is asked for
 /// more, and before each answer, the text of the lines so far is written; at `WriteFault` and
 /// `OutOfMemory` maybe only a first part of it.
-#[tactic(auto, using(crate::proofs::Answered::text_told, crate::proofs::Headline::histories_told, crate::proofs::Verdicts::begins_not, crate::proofs::Soaks::soaks_as, crate::proofs::RoleEnds::not_run, crate::proofs::RackEnds::rack_not_begun))]
+#[tactic(auto, using(crate::proofs::Answered::text_told, crate::proofs::Headline::histories_told, crate::proofs::Verdicts::begins_not, crate::proofs::Soaks::soaks_as, crate::proofs::RoleEnds::not_run, crate::proofs::RackEnds::rack_not_begun, crate::proofs::RacksEnds::racks_not_begun))]
 pub fn run<S: Source, K: Sink, W: Wire>(
     alloc: Global,
     words: &[String],
@@ -250,7 +249,7 @@ pub fn run<S: Source, K: Sink, W: Wire>(
     // that holds at the other ends, of which there are three.
     ensures soaks { (events start : ℕ) → job_in words.now ≡ Some (Job.Soak events start)
         → Soaks events start result (K.held sink.old) (K.held sink.new) }
-    // Of `switch`, `server`, `control` and `ask`: the node ended as the status says.
+    // Of `switch`, `balanced`, `server`, `control` and `ask`: the node ended as the status says.
     ensures node { (base : ℕ) (rack : Rack) (role : Role)
         → job_in words.now ≡ Some (Job.Node base rack role) → EndsNode base rack role result
         (told (S.left source.old) (K.held sink.old) (W.carried wire.old) (W.slots wire.old))
@@ -273,6 +272,14 @@ pub fn run<S: Source, K: Sink, W: Wire>(
     // appended ends with the operations and orders of a run, each a register history.
     ensures rack_histories { (base : ℕ) → job_in words.now ≡ Some (Job.Rack base)
         → result ≡ Status.Done → Tells (K.held sink.old) (K.held sink.new) ShowsHistories }
+    // Of `racks`: its session ended as the status says.
+    ensures several { job_in words.now ≡ Some Job.Racks → EndsAs plays_racks racks_start result
+        (told (S.left source.old) (K.held sink.old) None 0)
+        (told (S.left source.new) (K.held sink.new) None 0) }
+    // Done: clients of each rack saw one plain register for each of its keys. The whole text was
+    // appended, each order in it is a register history, and each rack ran as if it were alone.
+    ensures divided { job_in words.now ≡ Some Job.Racks → result ≡ Status.Done
+        → Tells (K.held sink.old) (K.held sink.new) ShowsRacks }
 {
     prints_register_histories();
     shows_each_operation();
@@ -282,9 +289,10 @@ pub fn run<S: Source, K: Sink, W: Wire>(
         Ok(Job::Check) => judge_history(alloc, source, sink),
         Ok(Job::Soak { events, start }) => soak_workload(alloc, *events, *start, sink),
         Ok(Job::Node { base, config, role }) => {
-            run_node(alloc, *base, config, *role, source, sink, wire)
+            run_node(alloc, *base, config, role, source, sink, wire)
         }
         Ok(Job::Rack { base }) => run_rack(alloc, *base, source, sink, wire),
+        Ok(Job::Racks) => run_racks(alloc, source, sink),
         Err(WordFault::Usage) => Status::Usage,
         Err(WordFault::OutOfMemory) => Status::OutOfMemory,
     }

@@ -23,8 +23,6 @@ use std::alloc::Global;
 use std::marker::Model;
 
 mod send;
-#[cfg(test)]
-mod tests;
 
 /// A server of a rack, and what it keeps.
 #[derive(Drop)]

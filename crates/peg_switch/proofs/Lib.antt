@@ -3,3 +3,4 @@ pub mod Steps
 pub mod Collecting
 pub mod Lasting
 pub mod Counting
+pub mod Allowing

@@ -1,3 +1,4 @@
 pub mod Seen
 pub mod Kept
 pub mod Modes
+pub mod Choices

@@ -24,15 +24,15 @@ use peg_hot::Counts;
 use peg_name::{Config, Format, Key, Node, OutOfMemory, SwitchId, Version};
 use peg_packet::{Packet, Post, What, decode};
 use peg_parts::{Collector, Parts};
+pub use peg_rules::Allowed;
 use peg_rules::Core;
 use std::alloc::Global;
 use std::marker::Model;
 
+mod choices;
 mod commands;
 mod handover;
 mod requests;
-#[cfg(test)]
-mod tests;
 
 /// Whether a switch forwards: not yet, or it does, or no longer, since it handed its state to the
 /// target.
@@ -159,7 +159,6 @@ impl Switch {
     ///   `OldPart` and `HasPart` for a part of an earlier epoch and one that is held;
     /// - `Stale` and `Exhausted` by the stamps, and `VoidSkipped` where the void is not of its client's
     ///   last stamp.
-    #[tactic(auto, using(crate::proofs::Lasting::rack_stays, crate::proofs::Lasting::id_stays))]
     pub fn step(&mut self, bytes: &[u8], pick: u64, post: &mut Post) -> SwitchDid
         requires format { post.old.format ≡ self.old.rack.format }
         requires room { length post.old.items + parts_most self.old.rack.format ≤ post.old.slots }
@@ -185,9 +184,15 @@ impl Switch {
 }
 
 impl Switch {
-    /// Takes a packet of the rack's format.
-    #[tactic(auto, using(crate::proofs::Steps::not_taken, crate::proofs::Steps::unsent, crate::proofs::Steps::idle_does, crate::proofs::Steps::sealed_does))]
-    fn take(&mut self, bytes: &[u8], packet: &Packet<'_>, pick: u64, post: &mut Post) -> SwitchDid
+    /// Takes a packet of the rack's format that `decode` has read from the bytes, as `step` does.
+    #[tactic(auto, using(crate::proofs::Lasting::rack_stays, crate::proofs::Lasting::id_stays, crate::proofs::Steps::not_taken, crate::proofs::Steps::unsent, crate::proofs::Steps::idle_does, crate::proofs::Steps::sealed_does))]
+    pub fn take(
+        &mut self,
+        bytes: &[u8],
+        packet: &Packet<'_>,
+        pick: u64,
+        post: &mut Post,
+    ) -> SwitchDid
         requires format { post.old.format ≡ self.old.rack.format }
         requires room { length post.old.items + parts_most self.old.rack.format ≤ post.old.slots }
         requires range { in_range self.old.rack.format (seen packet.now) ≡ true }
@@ -201,6 +206,8 @@ impl Switch {
         ensures nodes { are_in_rack self.old.rack
             (switch_step self.old (seen packet.now) pick).sent ≡ true }
         ensures few { length (switch_step self.old (seen packet.now) pick).sent ≤ parts_most self.old.rack.format }
+        ensures rack { self.new.rack ≡ self.old.rack }
+        ensures id { self.new.id ≡ self.old.id }
     {
         if !self.takes(packet) {
             return SwitchDid::OutOfPlace;

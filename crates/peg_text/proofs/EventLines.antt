@@ -42,7 +42,7 @@ node_ws (node.Server id) = codes "server" ∷ decimal id ∷ []
 node_ws (node.Switch id) = codes "switch" ∷ decimal id ∷ []
 node_ws node.Controller = codes "controller" ∷ []
 
-abbrev IsWords : Event → List (List ℕ) → Type 0
+abbrev pub IsWords : Event → List (List ℕ) → Type 0
 IsWords (event.Read client key) ws = ws ≡ codes "read" ∷ decimal client ∷ key_word key ∷ []
 IsWords (event.Write client key value) ws =
     ws ≡ codes "write" ∷ decimal client ∷ key_word key ∷ value_word value ∷ []
@@ -64,10 +64,10 @@ IsWords event.Survey ws = ws ≡ codes "survey" ∷ []
 IsWords (event.Plan promote_at demote_below) ws =
     ws ≡ codes "plan" ∷ decimal promote_at ∷ decimal demote_below ∷ []
 
-record Says (rack : Rack) (ws : List (List ℕ)) (e : Event) : Type 0 where
-  in_rack : EventInRack rack e
-  in_range : EventInRange e
-  spelled : IsWords e ws
+pub record Says (rack : Rack) (ws : List (List ℕ)) (e : Event) : Type 0 where
+  pub in_rack : EventInRack rack e
+  pub in_range : EventInRange e
+  pub spelled : IsWords e ws
 
 -- ---- the laws of the readers
 
@@ -95,10 +95,11 @@ below_read limit few =
 target_read : ReadLaw read_target (λ n. decimal n ∷ []) (λ n. n < 256)
 target_read = below_read 256 (omega arith)
 
-hex_read :
-    ReadLaw (next_by hex_of) (λ bytes. hex_word bytes ∷ [])
-    (λ bytes. (length bytes ≤ 1000) × AreBytes bytes)
-hex_read = next_law hex_of hex_word _ hex_law
+pub hex_read :
+    (most : ℕ)
+    → ReadLaw (next_by (hex_of most)) (λ bytes. hex_word bytes ∷ [])
+    (λ bytes. (length bytes ≤ most) × AreBytes bytes)
+hex_read most = next_law (hex_of most) hex_word _ (hex_law most)
 
 pub is_zero : (n : ℕ) → (n == 0) ≡ true → n ≡ 0
 is_zero n e = grind (arith, nat_tests)
@@ -347,8 +348,8 @@ module _ (rack : Rack) (limits : InLimits rack) where
       by_test (bytes_eq verb (codes "deliver")) _ _ (e, left) is
       (deliver_sound verb ws e left none) (λ no1 e1.
       by_test (bytes_eq verb (codes "junk")) _ _ (e, left) e1
-      (verb_sound (both_by (read_node rack) (next_by hex_of)) _ _
-      (both_law (read_node rack) _ _ node_read (next_by hex_of) _ _ hex_read)
+      (verb_sound (both_by (read_node rack) (next_by (hex_of 1000))) _ _
+      (both_law (read_node rack) _ _ node_read (next_by (hex_of 1000)) _ _ (hex_read 1000))
       (λ p. event.Junk p.0 p.1) (codes "junk") (λ p ok. record
       { in_rack = ok.0; in_range = ok.1; spelled = refl }) verb ws e left none)
       (λ no2 e2.
@@ -448,8 +449,8 @@ module _ (rack : Rack) (limits : InLimits rack) where
       ∙ ap (λ p. Some (event.Deliver number p)) (sym e.0)
   says_complete (event.Junk to bytes) ws ok range e =
       ap (event_in rack) e ∙ ap whole_of
-      (as_complete (both_by (read_node rack) (next_by hex_of)) _ _
-      (both_law (read_node rack) _ _ node_read (next_by hex_of) _ _ hex_read)
+      (as_complete (both_by (read_node rack) (next_by (hex_of 1000))) _ _
+      (both_law (read_node rack) _ _ node_read (next_by (hex_of 1000)) _ _ (hex_read 1000))
       (λ p. event.Junk p.0 p.1) (to, bytes) (ok, range))
   says_complete (event.Promote key) ws ok range e =
       ap (event_in rack) e ∙ ap whole_of
@@ -473,7 +474,9 @@ module _ (rack : Rack) (limits : InLimits rack) where
       (as_complete (both_by read_number read_number) _ _ (both_law read_number _ _ number_read
       read_number _ _ number_read) (λ p. event.Plan p.0 p.1) (promote_at, demote_below) range)
 
-  event_in_sound : (ws : List (List ℕ)) (e : Event) → event_in rack ws ≡ Some e → Says rack ws e
+  pub event_in_sound :
+      (ws : List (List ℕ)) (e : Event) → event_in rack ws ≡ Some e
+      → Says rack ws e
   event_in_sound [] e is = absurd (none-some e is)
   event_in_sound (verb ∷ ws) e is =
       let got = whole_some (event_by rack verb ws) e is in

@@ -13,3 +13,6 @@ pub mod RackLines
 pub mod OpLines
 pub mod Plain
 pub mod TakeLines
+pub mod DivideLines
+pub mod AuditLines
+pub mod RecordLines

@@ -18,6 +18,12 @@ pub four_words :
     → (v ++ 32 ∷ []) ++ a ++ 32 ∷ [] ++ b ++ 32 ∷ [] ++ c ≡ join_with_byte 32 (v ∷ a ∷ b ∷ c ∷ [])
 four_words v a b c = simp append_assoc
 
+pub five_words :
+    (v a b c d : List ℕ)
+    → (v ++ 32 ∷ []) ++ a ++ 32 ∷ [] ++ b ++ 32 ∷ [] ++ c ++ 32 ∷ [] ++ d
+    ≡ join_with_byte 32 (v ∷ a ∷ b ∷ c ∷ d ∷ [])
+five_words v a b c d = simp append_assoc
+
 -- the words of a line that joins them
 pub cut :
     (w : List ℕ) (ws : List (List ℕ)) (line : List ℕ) → AreSpaceless (w ∷ ws)

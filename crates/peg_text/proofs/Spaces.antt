@@ -92,6 +92,11 @@ pub content_spaceless : (content : Content) → is_spaceless (content_word conte
 content_spaceless Absent = refl
 content_spaceless (Present value) = value_spaceless value
 
+-- the first word, and those behind it
+pub words_of-cons :
+    (w line : List ℕ) → is_spaceless w ≡ true → words_of (w ++ 32 ∷ line) ≡ w ∷ words_of line
+words_of-cons w line e = slice_split_at is_space w 32 line (spaceless_all w e) refl
+
 pub words_of-join :
     (w : List ℕ) (ws : List (List ℕ)) → AreSpaceless (w ∷ ws)
     → words_of (join_with_byte 32 (w ∷ ws)) ≡ w ∷ ws

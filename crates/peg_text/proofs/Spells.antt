@@ -238,11 +238,13 @@ value_law most = record {
   complete = λ value ok. spelled_complete Word most value ok.1 ok.0;
 }
 
-pub hex_law : WordLaw hex_of hex_word (λ bytes. (length bytes ≤ 1000) × AreBytes bytes)
-hex_law = record {
+pub hex_law :
+    (most : ℕ)
+    → WordLaw (hex_of most) hex_word (λ bytes. (length bytes ≤ most) × AreBytes bytes)
+hex_law most = record {
   sound =
-      λ w bytes e. let said = behind_letter Hex 120 1000 w bytes e in (said.0, (said.2, said.1));
-  complete = λ bytes ok. spelled_complete Hex 1000 bytes ok.1 ok.0;
+      λ w bytes e. let said = behind_letter Hex 120 most w bytes e in (said.0, (said.2, said.1));
+  complete = λ bytes ok. spelled_complete Hex most bytes ok.1 ok.0;
 }
 
 content_sound :

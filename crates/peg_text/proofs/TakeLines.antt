@@ -18,7 +18,7 @@ use Rattle.peg_meaning.specs.RackWord.{IsOfNodes, IsRackEntryLine}
 use Rattle.peg_text.specs.Reading.{words_of, both_by, then_by, whole_of}
 use Rattle.peg_text.specs.Events.{Read, read_as, read_node, read_pick, event_by, event_in}
 use Rattle.peg_text.specs.declared.taking.RackEntry as said
-use Rattle.peg_text.specs.Takes.{entry_in, is_of_nodes, event_entry, entry_by, entry_from, entry_of}
+use Rattle.peg_text.specs.Takes.{entry_in, is_of_nodes, node_event, entry_by, entry_from, entry_of}
 use Rattle.peg_text.proofs.Readers.{by_test, if_passed, from_bytes_eq, then_at, then_some}
 use Rattle.peg_text.proofs.Spaces.{AreSpaceless, decimal_spaceless}
 use Rattle.peg_text.proofs.Lines.{two_words, three_words, four_words, cut, joined, only_one}
@@ -69,7 +69,7 @@ words_taken n pick false line t (inr short) = absurd (not_zero pick t short.0)
 
 -- ---- of which kind an event is
 
-of_nodes : (e : Event) → is_of_nodes e ≡ true → IsOfNodes e
+pub of_nodes : (e : Event) → is_of_nodes e ≡ true → IsOfNodes e
 of_nodes (event.Deliver number pick) is = absurd cc
 of_nodes (event.Junk to bytes) is = absurd cc
 of_nodes (event.Read client key) is = tt
@@ -87,7 +87,7 @@ of_nodes event.Retry is = tt
 of_nodes event.Survey is = tt
 of_nodes (event.Plan promote_at demote_below) is = tt
 
-is_of : (e : Event) → IsOfNodes e → is_of_nodes e ≡ true
+pub is_of : (e : Event) → IsOfNodes e → is_of_nodes e ≡ true
 is_of (event.Deliver number pick) of = absurd of
 is_of (event.Junk to bytes) of = absurd of
 is_of (event.Read client key) of = refl
@@ -106,7 +106,7 @@ is_of event.Survey of = refl
 is_of (event.Plan promote_at demote_below) of = refl
 
 -- what was chosen where three tests failed
-last_chosen :
+pub last_chosen :
     {A : Type 0} (a b c : Bool) (x y z w : A) → a ≡ false → b ≡ false → c ≡ false
     → cond a x (cond b y (cond c z w)) ≡ w
 last_chosen true b c x y z w first second third = absurd cc
@@ -115,10 +115,10 @@ last_chosen false false true x y z w first second third = absurd cc
 last_chosen false false false x y z w first second third = refl
 
 -- an entry of one word
-one_word :
-    (verb0 : List ℕ) (k : RackEntry) (line verb : List ℕ) (ws : List (List ℕ)) (e : RackEntry)
+pub one_word :
+    {E : Type 0} (verb0 : List ℕ) (k : E) (line verb : List ℕ) (ws : List (List ℕ)) (e : E)
     (left : List (List ℕ)) → words_of line ≡ verb ∷ ws → bytes_eq verb verb0 ≡ true → left ≡ []
-    → ◌≡◌ {A = Read RackEntry} (Some (k, ws)) (Some (e, left)) → (line ≡ verb0) × (k ≡ e)
+    → ◌≡◌ {A = Read E} (Some (k, ws)) (Some (e, left)) → (line ≡ verb0) × (k ≡ e)
 one_word verb0 k line verb ws e left is same none at =
     let pair : (k, ws) ≡ (e, left) = same_Some _ _ at in
     let words : words_of line ≡ verb0 ∷ [] =
@@ -166,21 +166,33 @@ module _ (rack : Rack) (limits : InLimits rack) where
       subst (λ (k : RackEntry). IsRackEntryLine rack line k) is_entry
       (name.1, pick.0, words_taken one.0.0 two.0.0 (two.0.0 == 0) line refl spelled)
 
-  event_entry_sound :
-      (line verb : List ℕ) (ws : List (List ℕ)) (r : Read Event) (e : RackEntry)
+  node_event_sound :
+      (line verb : List ℕ) (ws : List (List ℕ)) (r : Read Event) (e : Event)
       (left : List (List ℕ)) → words_of line ≡ verb ∷ ws → left ≡ []
-      → event_by rack verb ws ≡ r → event_entry r ≡ Some (e, left)
-      → IsRackEntryLine rack line e
-  event_entry_sound line verb ws None e left words none is at = absurd (none-some _ at)
-  event_entry_sound line verb ws (Some r) e left words none is at =
-      let passed = if_passed (is_of_nodes r.0) (Some (Happens r.0, r.1)) (e, left) at in
-      let pair : (Happens r.0, r.1) ≡ (e, left) = same_Some _ _ passed.1 in
+      → event_by rack verb ws ≡ r → node_event r ≡ Some (e, left)
+      → IsEventLine rack line e × IsOfNodes e
+  node_event_sound line verb ws None e left words none is at = absurd (none-some _ at)
+  node_event_sound line verb ws (Some r) e left words none is at =
+      let passed = if_passed (is_of_nodes r.0) (Some r) (e, left) at in
+      let pair : r ≡ (e, left) = same_Some _ _ passed.1 in
       let end : r.1 ≡ [] = ap (λ p. p.1) pair ∙ none in
       let read : event_in rack (words_of line) ≡ Some r.0 =
       ap (event_in rack) words ∙ ap whole_of is
       ∙ ap (λ l. whole_of (Some (r.0, l))) end in
-      subst (λ (k : RackEntry). IsRackEntryLine rack line k) (ap (λ p. p.0) pair)
+      subst (λ (k : Event). IsEventLine rack line k × IsOfNodes k) (ap (λ p. p.0) pair)
       (event_sound rack limits line r.0 read, of_nodes r.0 passed.0)
+
+  -- an entry that is an event
+  pub happens_sound :
+      {E : Type 0} (happens : Event → E) (P : E → Type 0) (line verb : List ℕ)
+      (ws : List (List ℕ)) (e : E) (left : List (List ℕ)) → words_of line ≡ verb ∷ ws → left ≡ []
+      → read_as happens (node_event (event_by rack verb ws)) ≡ Some (e, left)
+      → ((k : Event) → IsEventLine rack line k × IsOfNodes k → P (happens k)) → P e
+  happens_sound happens P line verb ws e left words none at holds =
+      let got = then_some (node_event (event_by rack verb ws)) _ (e, left) at in
+      let pair : (happens got.0.0, got.0.1) ≡ (e, left) = same_Some _ _ got.2 in
+      subst P (ap (λ p. p.0) pair) (holds got.0.0 (node_event_sound line verb ws
+      (event_by rack verb ws) got.0.0 got.0.1 words (ap (λ p. p.1) pair ∙ none) refl got.1))
 
   from_sound :
       (line : List ℕ) (ws : List (List ℕ)) (e : RackEntry) → words_of line ≡ ws
@@ -201,7 +213,8 @@ module _ (rack : Rack) (limits : InLimits rack) where
       let one = one_word (codes "end") End line verb ws e got.0 words same got.1 at in
       subst (λ (k : RackEntry). IsRackEntryLine rack line k) one.1 one.0)
       (λ no3 e3.
-      event_entry_sound line verb ws (event_by rack verb ws) e got.0 words got.1 refl e3)))
+      happens_sound Happens (IsRackEntryLine rack line) line verb ws e got.0 words got.1 e3
+      (λ k is. is))))
 
   pub entry_sound :
       (line : List ℕ) (e : RackEntry) → entry_of rack line ≡ Some e → IsRackEntryLine rack line e
@@ -251,7 +264,7 @@ module _ (rack : Rack) (limits : InLimits rack) where
       ∙ ap (λ p. Some (Takes n p)) (sym e.0)
 
   -- an event has another verb
-  not_verb :
+  pub not_verb :
       (verb verb0 : List ℕ) (ws : List (List ℕ)) (r : Event × List (List ℕ)) (b : Bool)
       → bytes_eq verb verb0 ≡ b → event_by rack verb ws ≡ Some r
       → event_by rack verb0 ws ≡ None → bytes_eq verb verb0 ≡ false
@@ -259,6 +272,14 @@ module _ (rack : Rack) (limits : InLimits rack) where
   not_verb verb verb0 ws r true same is none =
       absurd (none-some r
       (sym none ∙ ap (λ v. event_by rack v ws) (sym (from_bytes_eq verb verb0 same)) ∙ is))
+
+  pub happens_read :
+      {E : Type 0} (happens : Event → E) (verb : List ℕ) (ws : List (List ℕ)) (e : Event)
+      (left : List (List ℕ)) → is_of_nodes e ≡ true → event_by rack verb ws ≡ Some (e, left)
+      → read_as happens (node_event (event_by rack verb ws)) ≡ Some (happens e, left)
+  happens_read happens verb ws e left of is =
+      ap (λ r. read_as happens (node_event r)) is
+      ∙ ap (λ b. read_as happens (cond b (Some (e, left)) None)) of
 
   event_from :
       (ws : List (List ℕ)) (e : Event) → event_in rack ws ≡ Some e → is_of_nodes e ≡ true
@@ -268,12 +289,12 @@ module _ (rack : Rack) (limits : InLimits rack) where
       let got = whole_some (event_by rack verb ws) e is in
       ap whole_of
       (last_chosen (bytes_eq verb (codes "take")) (bytes_eq verb (codes "round"))
-      (bytes_eq verb (codes "end")) _ _ _ (event_entry (event_by rack verb ws))
+      (bytes_eq verb (codes "end")) _ _ _
+      (read_as Happens (node_event (event_by rack verb ws)))
       (not_verb verb (codes "take") ws (e, got.0) _ refl got.2 refl)
       (not_verb verb (codes "round") ws (e, got.0) _ refl got.2 refl)
       (not_verb verb (codes "end") ws (e, got.0) _ refl got.2 refl)
-      ∙ ap event_entry got.2
-      ∙ ap (λ b. cond b (Some (Happens e, got.0)) None) of)
+      ∙ happens_read Happens verb ws e got.0 of got.2)
       ∙ ap (λ l. whole_of (Some (Happens e, l))) got.1
 
   pub entry_complete :

@@ -93,7 +93,7 @@ packet_event rack verb ws =
     (both_by read_number read_pick ws)
     else
     (if bytes_eq verb (codes "junk") then read_as (λ p. event.Junk p.0 p.1)
-    (both_by (read_node rack) (next_by hex_of) ws)
+    (both_by (read_node rack) (next_by (hex_of 1000)) ws)
     else control_event verb ws)
 
 -- what clients begin, or another event

@@ -5,3 +5,6 @@ pub mod EntryLine
 pub mod Racks
 pub mod Ops
 pub mod Takes
+pub mod Divides
+pub mod Audits
+pub mod Recordings

@@ -4,7 +4,7 @@
 --     spelled form most w      the bytes that a word spells, at most so many of them
 --     are_plain w      each byte of a word spells itself
 --     escaped b      % and two digits
---     key_of, value_of most, content_of, hex_of      a key, a value, a content and handed bytes
+--     key_of, value_of most, content_of, hex_of most      a key, a value, a content and handed bytes
 --     next_by f, both_by first second      what the next word says, and what two readers say in
 --         turn
 --     whole_of r      what was read, if no word is left
@@ -122,8 +122,8 @@ value_of most w = option_and_then (spelled Word most) (behind 61 w)
 abbrev pub content_of : List ℕ → Option Content
 content_of w = if bytes_eq w (codes "-") then Some Absent else option_map Present (value_of 1024 w)
 
-abbrev pub hex_of : List ℕ → Option (List ℕ)
-hex_of w = option_and_then (spelled Hex 1000) (behind 120 w)
+abbrev pub hex_of : ℕ → List ℕ → Option (List ℕ)
+hex_of most w = option_and_then (spelled Hex most) (behind 120 w)
 
 -- ---- the words that are left: each reader gives what it read and the words behind that
 

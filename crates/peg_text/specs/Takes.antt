@@ -1,6 +1,7 @@
 -- What a line of a rack over a wire says, as a function of its words.
 --     entry_in e      what was read, as the book has it
 --     is_of_nodes e      an event that is no delivery and hands no bytes
+--     node_event r      such an event alone
 --     entry_of rack line      the event, the take, the round or the end that it spells
 use Rattle.std.specs.Prelude.{ℕ, Bool, true, false, Option, Some, None, List, [], ◌∷◌}
 use Rattle.std.specs.Prelude.{if◌then◌else◌, codes}
@@ -25,9 +26,9 @@ is_of_nodes (event.Deliver number pick) = false
 is_of_nodes (event.Junk to bytes) = false
 is_of_nodes _ = true
 
-abbrev pub event_entry : Read Event → Read RackEntry
-event_entry None = None
-event_entry (Some r) = if is_of_nodes r.0 then Some (Happens r.0, r.1) else None
+abbrev pub node_event : Read Event → Read Event
+node_event None = None
+node_event (Some r) = if is_of_nodes r.0 then Some r else None
 
 abbrev pub entry_by : Rack → List ℕ → List (List ℕ) → Read RackEntry
 entry_by rack verb ws =
@@ -35,7 +36,7 @@ entry_by rack verb ws =
     (both_by (read_node rack) read_pick ws)
     else (if bytes_eq verb (codes "round") then Some (Round, ws)
     else (if bytes_eq verb (codes "end") then Some (End, ws)
-    else event_entry (event_by rack verb ws)))
+    else read_as Happens (node_event (event_by rack verb ws))))
 
 abbrev pub entry_from : Rack → List (List ℕ) → Option RackEntry
 entry_from rack [] = None

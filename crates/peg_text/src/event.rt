@@ -1,13 +1,13 @@
 //! The lines of a schedule, read.
 ghost use Rattle.std.specs.Prelude.{◌≡◌, ◌≤◌, ◌<◌, IfSome, option_map, codes};
-ghost use Rattle.peg_text.specs.Reading.{next_by, both_by, number_below, words_of};
+ghost use Rattle.peg_text.specs.Reading.{next_by, both_by, number_below};
 ghost use Rattle.peg_text.specs.Events as events;
 ghost use Rattle.peg_text.specs.EntryLine.{IsEntryLine};
 ghost use Rattle.peg_model.specs.Schedule.{IsEventLine};
 ghost use Rattle.peg_event.specs.declared.Event as book;
 
 use crate::words::{Words, is, number_of};
-use peg_event::Event;
+use peg_event::{Event, Junk};
 use peg_name::{ClientId, Config, Format, Key, Node, ServerId, SwitchId, Value};
 
 /// A line of a schedule behind the rack line.
@@ -162,7 +162,7 @@ fn packet_event<'a>(
     }
     if is(verb, b"junk") {
         let to = read_node(config, words)?;
-        let bytes = words.junk(room)?;
+        let bytes = Junk::make(words.hex(1000, room)?);
         return Some(Event::Junk { to, bytes });
     }
     control_event(verb, words)
@@ -214,10 +214,14 @@ pub(crate) fn event_by<'a>(
     packet_event(config, verb, words, room)
 }
 
-fn event_in<'a>(config: &Config, line: &'a [u8], room: &'a mut [u8; 1024]) -> Option<Event<'a>>
-    ensures { result ≡ events.event_in config.now (words_of line.entry.now) }
+// What these words say, all of them.
+pub(crate) fn event_in<'a>(
+    config: &Config,
+    mut words: Words<'a>,
+    room: &'a mut [u8; 1024],
+) -> Option<Event<'a>>
+    ensures { result ≡ events.event_in config.now words.entry }
 {
-    let mut words = Words::of(line);
     let verb = words.next()?;
     let event = event_by(config, verb, &mut words, room)?;
     match words.next() {
@@ -229,7 +233,7 @@ fn event_in<'a>(config: &Config, line: &'a [u8], room: &'a mut [u8; 1024]) -> Op
 fn entry_of<'a>(config: &Config, line: &'a [u8], room: &'a mut [u8; 1024]) -> Option<Entry<'a>>
     ensures { result ≡ events.entry_of config.now line.entry.now }
 {
-    match event_in(config, line, room) {
+    match event_in(config, Words::of(line), room) {
         Some(event) => Some(Entry::Event(event)),
         None if is(line, b"end") => Some(Entry::End),
         None => None,

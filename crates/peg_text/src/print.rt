@@ -358,6 +358,14 @@ fn push_sent(sent: &Option<(u32, u32)>, out: &mut Text)
     }
 }
 
+pub(crate) fn push_body(line: &Line<'_>, out: &mut Text)
+    requires { length out.old + 3250 ≤ 4096 }
+    ensures { out.new ≡ out.old ++ trace.body_text line.now }
+{
+    push_said(&line.said, out);
+    push_sent(&line.sent, out);
+}
+
 /// Prints the text of an outcome, without a number and without what was sent.
 pub fn said_text(said: &Said<'_>, out: &mut Text)
     ensures { out.new ≡ trace.said_text said.now }
@@ -371,8 +379,7 @@ pub fn body_text(line: &Line<'_>, out: &mut Text)
     ensures { out.new ≡ trace.body_text line.now }
 {
     out.clear();
-    push_said(&line.said, out);
-    push_sent(&line.sent, out);
+    push_body(line, out);
 }
 
 /// Prints the line of the trace at this place.
@@ -382,6 +389,5 @@ pub fn line_text(place: u64, line: &Line<'_>, out: &mut Text)
     out.clear();
     out.push_number(place);
     out.push_bytes(b" ");
-    push_said(&line.said, out);
-    push_sent(&line.sent, out);
+    push_body(line, out);
 }

@@ -27,6 +27,13 @@ pub(crate) fn escaped(byte: u8) -> [u8; 3]
     [b'%', hex_digit(b'A', byte / 16), hex_digit(b'A', byte % 16)]
 }
 
+/// How a byte is spelled as a pair of digits.
+pub(crate) fn pair(byte: u8) -> [u8; 2]
+    ensures { result ≡ reading.lower_pair byte }
+{
+    [hex_digit(b'a', byte / 16), hex_digit(b'a', byte % 16)]
+}
+
 fn digit_value(digit: u8) -> u8
     ensures value { result ≡ reading.digit_value digit }
     ensures low { result < 16 }

@@ -34,18 +34,19 @@ fn is_of_nodes(event: &Event<'_>) -> bool
     }
 }
 
-fn event_entry<'a>(
+// What a client or the controller is asked for.
+pub(crate) fn node_event<'a>(
     config: &Config,
     verb: &[u8],
     words: &mut Words<'a>,
     room: &'a mut [u8; 1024],
-) -> Option<RackEntry<'a>>
-    ensures { option_map (λ e. (entry_in e, words.new)) result
-        ≡ takes.event_entry (event_by config.now verb.now words.old) }
+) -> Option<Event<'a>>
+    ensures { option_map (λ e. (e, words.new)) result
+        ≡ takes.node_event (event_by config.now verb.now words.old) }
 {
     let event = event_by(config, verb, words, room)?;
     if is_of_nodes(&event) {
-        Some(RackEntry::Event(event))
+        Some(event)
     } else {
         None
     }
@@ -71,7 +72,8 @@ fn entry_by<'a>(
     if is(verb, b"end") {
         return Some(RackEntry::End);
     }
-    event_entry(config, verb, words, room)
+    let event = node_event(config, verb, words, room)?;
+    Some(RackEntry::Event(event))
 }
 
 fn entry_of<'a>(config: &Config, line: &'a [u8], room: &'a mut [u8; 1024]) -> Option<RackEntry<'a>>

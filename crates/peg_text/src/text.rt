@@ -1,10 +1,10 @@
 //! A line that is printed, piece by piece.
-ghost use Rattle.std.specs.Prelude.{◌≡◌, ◌+◌, ◌*◌, ◌≤◌, ◌++◌, [], length, codes, decimal};
+ghost use Rattle.std.specs.Prelude.{◌≡◌, ◌+◌, ◌*◌, ◌≤◌, ◌++◌, [], length, codes, decimal, flat_map};
 ghost use Rattle.peg_model.specs.Schedule.{node_words};
-ghost use Rattle.peg_model.specs.Text.{key_word, content_word, plain_or_escaped};
-ghost use Rattle.peg_text.specs.Reading.{escaped};
+ghost use Rattle.peg_model.specs.Text.{key_word, content_word, plain_or_escaped, hex_word};
+ghost use Rattle.peg_text.specs.Reading.{escaped, lower_pair};
 
-use crate::spelling::{are_plain, escaped, is_plain};
+use crate::spelling::{are_plain, escaped, is_plain, pair};
 use arrayvec::ArrayVec;
 use itoa::Buffer;
 use peg_name::{ClientId, Content, Key, Node, Seq, ServerId, SwitchId, Version};
@@ -128,6 +128,33 @@ impl Text {
                 self.push_all_spelled(value.bytes());
             }
         }
+    }
+
+    fn push_pair(&mut self, byte: u8)
+        requires { length self.old + 2 ≤ 4096 }
+        ensures text { self.new ≡ self.old ++ lower_pair byte }
+        ensures room { length self.new ≡ length self.old + 2 }
+    {
+        self.push_bytes(pair(byte).as_slice());
+    }
+
+    fn push_pairs(&mut self, bytes: &[u8])
+        requires { length self.old + 2 * length bytes.now ≤ 4096 }
+        ensures text { self.new ≡ self.old ++ flat_map lower_pair bytes.now }
+        ensures room { length self.new ≡ length self.old + 2 * length bytes.now }
+    {
+        for byte in bytes {
+            self.push_pair(*byte);
+        }
+    }
+
+    pub(crate) fn push_hex(&mut self, bytes: &[u8])
+        requires { length self.old + 2 * length bytes.now + 1 ≤ 4096 }
+        ensures text { self.new ≡ self.old ++ hex_word bytes.now }
+        ensures room { length self.new ≡ length self.old + 2 * length bytes.now + 1 }
+    {
+        self.push_bytes(b"x");
+        self.push_pairs(bytes);
     }
 
     pub(crate) fn push_word_number(&mut self, word: &[u8], number: u64)

@@ -1,13 +1,12 @@
 //! The words of a line, and what each says.
 ghost use Rattle.std.specs.Prelude.{◌≡◌, ◌<◌, ◌≤◌, [], ◌∷◌, MatchOption, IfSome, position};
-ghost use Rattle.std.specs.Prelude.{option_map};
+ghost use Rattle.std.specs.Prelude.{length, option_map};
 ghost use Rattle.std.specs.Str.{bytes_eq};
 ghost use Rattle.peg_text.specs.Reading as reading;
 ghost use Rattle.peg_text.specs.Racks as racks;
 ghost use Rattle.peg_text.specs.declared.spelling.Form.TheVariants as form;
 
 use crate::spelling::{Form, are_plain, spelled};
-use peg_event::Junk;
 use peg_name::{Content, Key, Value};
 use std::marker::Model;
 
@@ -96,14 +95,18 @@ fn content_of<'a>(word: &'a [u8], room: &'a mut [u8; 1024]) -> Option<Content<'a
     Some(Content::Present(value_of(1024, word, room)?))
 }
 
-fn junk_of<'a>(word: &'a [u8], room: &'a mut [u8; 1024]) -> Option<Junk<'a>>
-    ensures { result ≡ reading.hex_of word.entry.now }
+// The bytes that pairs of digits spell, at most so many of them.
+fn hex_of<'a>(most: usize, word: &'a [u8], room: &'a mut [u8]) -> Option<&'a [u8]>
+    requires { most ≤ length room.old }
+    ensures bytes { option_map (λ bytes. bytes.now) result
+        ≡ reading.hex_of most word.entry.now }
+    ensures few { IfSome result (λ bytes. length bytes.now ≤ most) }
 {
     let [b'x', rest @ ..] = word else {
         return None;
     };
-    let count = spelled(Form::Hex, 1000, rest, room)?;
-    Some(Junk::make(&room[..count]))
+    let count = spelled(Form::Hex, most, rest, room)?;
+    Some(&room[..count])
 }
 
 fn first_space(text: &[u8]) -> Option<usize>
@@ -196,11 +199,14 @@ impl<'a> Words<'a> {
         content_of(self.next()?, room)
     }
 
-    pub(crate) fn junk(&mut self, room: &'a mut [u8; 1024]) -> Option<Junk<'a>>
-        ensures { option_map (λ junk. (junk, self.new)) result
-            ≡ reading.next_by reading.hex_of self.old }
+    /// Reads bytes that are spelled by pairs of digits, at most so many.
+    pub(crate) fn hex(&mut self, most: usize, room: &'a mut [u8]) -> Option<&'a [u8]>
+        requires { most ≤ length room.old }
+        ensures read { option_map (λ bytes. (bytes.now, self.new)) result
+            ≡ reading.next_by (reading.hex_of most) self.old }
+        ensures few { IfSome result (λ bytes. length bytes.now ≤ most) }
     {
-        junk_of(self.next()?, room)
+        hex_of(most, self.next()?, room)
     }
 
     /// Reads just this word.

@@ -6,7 +6,7 @@ use Rattle.std.specs.Str.{bytes_eq}
 use Rattle.std.proofs.lemmas.Slice.Eq.{bytes_eq-Decides}
 use Rattle.peg_meaning.specs.Commands as book
 use Rattle.peg_meaning.specs.Commands.{plain_job, soak_job, switch_job, server_job, control_job}
-use Rattle.peg_meaning.specs.Commands.{ask_job, rack_job}
+use Rattle.peg_meaning.specs.Commands.{ask_job, rack_job, balanced_job}
 use Rattle.peg_words.specs.Jobs.{job_of, given, count_of}
 
 plain_not : (j : book.Job) (words : List (List ℕ)) → length words ≢ 0 → plain_job j words ≡ None
@@ -58,6 +58,15 @@ rack_not [] other = refl
 rack_not (a ∷ []) other = absurd (other refl)
 rack_not (a ∷ b ∷ words) other = refl
 
+balanced_not : (words : List (List ℕ)) → length words ≢ 5 → balanced_job words ≡ None
+balanced_not [] other = refl
+balanced_not (a ∷ []) other = refl
+balanced_not (a ∷ b ∷ []) other = refl
+balanced_not (a ∷ b ∷ c ∷ []) other = refl
+balanced_not (a ∷ b ∷ c ∷ d ∷ []) other = refl
+balanced_not (a ∷ b ∷ c ∷ d ∷ e ∷ []) other = absurd (other refl)
+balanced_not (a ∷ b ∷ c ∷ d ∷ e ∷ f ∷ words) other = refl
+
 -- ---- names
 
 pub data Named : List ℕ → Type 0 where
@@ -69,32 +78,35 @@ pub data Named : List ℕ → Type 0 where
   control : Named (codes "control")
   ask : Named (codes "ask")
   whole_rack : Named (codes "rack")
+  racks : Named (codes "racks")
+  balanced : Named (codes "balanced")
   other : (name : List ℕ) → count_of name ≡ None → Named name
 
-pub named : (name : List ℕ) → Named name
-named name = by _ _ _ _ _ _ _ _ refl refl refl refl refl refl refl refl
-  where
-    as_is : (text : List ℕ) → Named text → bytes_eq name text ≡ true → Named name
-    as_is text found same =
-        subst (λ (n : List ℕ). Named n) (sym ((bytes_eq-Decides name text).0 same)) found
+choose : {P : Type 0} (b : Bool) → (b ≡ true → P) → (b ≡ false → P) → P
+choose true found missed = found refl
+choose false found missed = missed refl
 
-    by : (a b c d e f g h : Bool) → bytes_eq name (codes "replay") ≡ a
-        → bytes_eq name (codes "check") ≡ b → bytes_eq name (codes "soak") ≡ c
-        → bytes_eq name (codes "switch") ≡ d → bytes_eq name (codes "server") ≡ e
-        → bytes_eq name (codes "control") ≡ f → bytes_eq name (codes "ask") ≡ g
-        → bytes_eq name (codes "rack") ≡ h → Named name
-    by true b c d e f g h r k s w v o q u = as_is (codes "replay") replay r
-    by false true c d e f g h r k s w v o q u = as_is (codes "check") check k
-    by false false true d e f g h r k s w v o q u = as_is (codes "soak") soak s
-    by false false false true e f g h r k s w v o q u = as_is (codes "switch") switch w
-    by false false false false true f g h r k s w v o q u = as_is (codes "server") server v
-    by false false false false false true g h r k s w v o q u =
-        as_is (codes "control") control o
-    by false false false false false false true h r k s w v o q u = as_is (codes "ask") ask q
-    by false false false false false false false true r k s w v o q u =
-        as_is (codes "rack") whole_rack u
-    by false false false false false false false false r k s w v o q u =
-        other name (rw (r, k, s, w, v, o, q, u) refl)
+module _ (name : List ℕ) where
+  as_is : (text : List ℕ) → Named text → bytes_eq name text ≡ true → Named name
+  as_is text found same =
+      subst (λ (n : List ℕ). Named n) (sym ((bytes_eq-Decides name text).0 same)) found
+
+  is_or : (text : List ℕ) → Named text → (bytes_eq name text ≡ false → Named name) → Named name
+  is_or text found unlike = choose (bytes_eq name text) (as_is text found) unlike
+
+  pub named : Named name
+  named =
+      is_or (codes "replay") replay
+      (λ a. is_or (codes "check") check
+      (λ b. is_or (codes "soak") soak
+      (λ c. is_or (codes "switch") switch
+      (λ d. is_or (codes "server") server
+      (λ e. is_or (codes "control") control
+      (λ f. is_or (codes "ask") ask
+      (λ g. is_or (codes "rack") whole_rack
+      (λ h. is_or (codes "racks") racks
+      (λ i. is_or (codes "balanced") balanced
+      (λ j. other name (rw (a, b, c, d, e, f, g, h, i, j) refl)))))))))))
 
 pub not_here : (name : List ℕ) (words : List (List ℕ)) → count_of name ≡ None
     → job_of (name ∷ words) ≡ None
@@ -126,6 +138,12 @@ counted_by _ words n ask is more =
 counted_by _ words n whole_rack is more =
     let count : 1 ≡ n = cc in
     rw (rack_not words (λ e. more (e ∙ count))) refl
+counted_by _ words n racks is more =
+    let count : 0 ≡ n = cc in
+    rw (plain_not book.Racks words (λ e. more (e ∙ count))) refl
+counted_by _ words n balanced is more =
+    let count : 5 ≡ n = cc in
+    rw (balanced_not words (λ e. more (e ∙ count))) refl
 counted_by _ words n (other name unlike) is more = not_here name words unlike
 
 -- another count of words is no command
@@ -158,3 +176,7 @@ ask_unread words more = rw (ask_not words more) refl
 pub rack_unread : (words : List (List ℕ)) → length words ≢ 1
     → None ≡ option_and_then given (rack_job words)
 rack_unread words more = rw (rack_not words more) refl
+
+pub balanced_unread : (words : List (List ℕ)) → length words ≢ 5
+    → None ≡ option_and_then given (balanced_job words)
+balanced_unread words more = rw (balanced_not words more) refl

@@ -3,7 +3,7 @@ use Rattle.std.proofs.Common.{◌≡◌, ◌≤◌, ◌<◌, ◌^◌, ◌-◌, �
 use Rattle.std.proofs.Common.{List, [], ◌∷◌, refl, ap, subst, inl, inr, ◌⊎◌, decimal, nat_le}
 use Rattle.std.proofs.Common.{nat_lt}
 use Rattle.std.proofs.Common.{Option, Some, None, Result, Ok, Err, arith, if◌then◌else◌}
-use Rattle.std.specs.Prelude.{option_and_then}
+use Rattle.std.specs.Prelude.{option_and_then, option_map}
 use Rattle.std.specs.List.{list_any, slice_split, onto_first}
 use Rattle.std.specs.Str.{bytes_eq}
 use Rattle.std.specs.Str.Parse.{IsNumeral, digits_value}
@@ -18,14 +18,14 @@ use Rattle.peg_name.specs.declared.Format.{Format}
 use Rattle.peg_name.specs.declared.Format.TheVariants as format
 use Rattle.peg_meaning.specs.Commands as book
 use Rattle.peg_meaning.specs.Commands.{soak_job, switch_job, server_job, control_job, ask_job, Job}
-use Rattle.peg_meaning.specs.Commands.{rack_job}
+use Rattle.peg_meaning.specs.Commands.{rack_job, balanced_job, weights_of}
 use Rattle.peg_meaning.specs.Commands.{number_within, numbers_within, reading, at_base, rack_of}
 use Rattle.peg_meaning.specs.Commands.{is_colon, between_colons, rack_of_numbers, rack_with}
 use Rattle.peg_words.specs.Arguments.{is_dashed}
 use Rattle.peg_words.specs.Jobs.{job_of}
 use Rattle.peg_words.proofs.Decimals.{and_true}
 use Rattle.peg_words.proofs.Counts.{Named, named, not_here, replay, check, soak, switch, server}
-use Rattle.peg_words.proofs.Counts.{whole_rack}
+use Rattle.peg_words.proofs.Counts.{whole_rack, racks, balanced}
 use Rattle.peg_words.proofs.Counts.{control, ask, other}
 
 -- ---- numbers
@@ -327,6 +327,54 @@ rack_word_dashed [] is = refl
 rack_word_dashed (a ∷ []) is = unread 1024 60000 a _ (omega arith) (last _ is)
 rack_word_dashed (a ∷ b ∷ words) is = refl
 
+-- a weight with a hyphen is none
+no_weight : (x : ℕ) (parts : List (List ℕ)) → (x == 45) ≡ true
+    → numbers_within 1 1000 (onto_first x parts) ≡ None
+no_weight x [] is = unread 1 1000 (x ∷ []) _ (omega arith) is
+no_weight x (part ∷ parts) is = unread 1 1000 (x ∷ part) _ (omega arith) is
+
+no_weights : (r : Rack) (word : List ℕ) → is_dashed word ≡ true → weights_of r word ≡ None
+no_weights r [] is = absurd (cc)
+no_weights r (x ∷ xs) is =
+    let no_colon : is_colon x ≡ false = grind (arith, nat_tests, is) in
+    rw (slice_split-cons_no is_colon x xs no_colon, no_weight x (slice_split is_colon xs) is) refl
+
+balanced_dashed : (words : List (List ℕ)) → list_any is_dashed words ≡ true
+    → balanced_job words ≡ None
+balanced_dashed [] is = refl
+balanced_dashed (a ∷ []) is = refl
+balanced_dashed (a ∷ b ∷ []) is = refl
+balanced_dashed (a ∷ b ∷ c ∷ []) is = refl
+balanced_dashed (a ∷ b ∷ c ∷ d ∷ []) is = refl
+balanced_dashed (a ∷ b ∷ c ∷ d ∷ e ∷ []) is =
+    elim (or_true _ _ is) [
+      | inl one ↦ base_dashed a b _ one
+      | inr rest ↦
+          elim (or_true _ _ rest) [
+            | inl two ↦ rack_dashed a b _ two
+            | inr rest ↦ made_none a b _ (λ n r s. spreads n r s rest)
+          ]
+    ]
+  where
+    spreads : (n : ℕ) (r : Rack) → IsSmall r → list_any is_dashed (c ∷ d ∷ e ∷ []) ≡ true
+        → reading 0 (r.switches - 1) c
+        (λ w. reading 0 1000000000 d
+        (λ t. option_map (λ ws. book.Balanced n r w t ws) (weights_of r e)))
+        ≡ None
+    spreads n r s is =
+        elim (or_true _ _ is) [
+          | inl three ↦ unread 0 (r.switches - 1) c _ (omega (arith, s.switches)) three
+          | inr rest ↦
+              none_after (number_within 0 (r.switches - 1) c) _
+              (λ x found. elim (or_true _ _ rest) [
+                | inl four ↦ unread 0 1000000000 d _ (omega arith) four
+                | inr end ↦
+                    none_after (number_within 0 1000000000 d) _
+                    (λ y found. rw (no_weights r e (last _ end)) refl)
+              ])
+        ]
+balanced_dashed (a ∷ b ∷ c ∷ d ∷ e ∷ f ∷ words) is = refl
+
 dashed_by : (name : List ℕ) (words : List (List ℕ)) → Named name
     → list_any is_dashed (name ∷ words) ≡ true → job_of (name ∷ words) ≡ None
 dashed_by _ [] replay is = absurd (cc)
@@ -339,6 +387,9 @@ dashed_by _ words server is = rw (server_dashed words is) refl
 dashed_by _ words control is = rw (control_dashed words is) refl
 dashed_by _ words ask is = rw (ask_dashed words is) refl
 dashed_by _ words whole_rack is = rw (rack_word_dashed words is) refl
+dashed_by _ [] racks is = absurd (cc)
+dashed_by _ (a ∷ words) racks is = refl
+dashed_by _ words balanced is = rw (balanced_dashed words is) refl
 dashed_by _ words (other name unlike) is = not_here name words unlike
 
 pub dashed : (words : List (List ℕ)) → list_any is_dashed words ≡ true → job_of words ≡ None

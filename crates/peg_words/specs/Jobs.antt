@@ -4,10 +4,12 @@
 --     count_of name      how many arguments the command has
 --     job_of words      the job, where the words are a command
 --     if_none job words      the job of a command without arguments
+--     IsWeight n      a server may have this weight
 --     IsRoleOf rack role      the node is one of the rack, and its numbers are in their ranges
 --     IsInRange job      its numbers are in their ranges
-use Rattle.std.specs.Prelude.{◌≤◌, ◌<◌, ℕ, List, [], ◌∷◌, Option, Some, None, codes, Bool, false}
-use Rattle.std.specs.Prelude.{option_and_then, is_some, if◌then◌else◌}
+use Rattle.std.specs.Prelude.{◌≡◌, ◌≤◌, ◌<◌, ℕ, List, [], ◌∷◌, Option, Some, None, codes, Bool}
+use Rattle.std.specs.Prelude.{false, length, option_and_then, is_some, if◌then◌else◌}
+use Rattle.std.specs.List.{AllByRecursion}
 use Rattle.std.specs.Map.{lookup}
 use Rattle.std.specs.Str.{bytes_eq}
 use Rattle.peg_name.specs.Name.{Rack}
@@ -27,6 +29,8 @@ counts =
     ∷ (codes "control", 4)
     ∷ (codes "ask", 6)
     ∷ (codes "rack", 1)
+    ∷ (codes "racks", 0)
+    ∷ (codes "balanced", 5)
     ∷ []
 
 abbrev pub count_of : List ℕ → Option ℕ
@@ -49,6 +53,9 @@ given (book.Control base rack tries waits) =
 given (book.Ask base rack client first tries waits) =
     Some (job.Node base rack (role.Ask client first tries waits))
 given (book.WholeRack base) = Some (job.Rack base)
+given book.Racks = Some job.Racks
+given (book.Balanced base rack switch turns weights) =
+    Some (job.Node base rack (role.Balanced switch turns (record { items = weights })))
 given _ = None
 
 abbrev pub job_of : List (List ℕ) → Option Job
@@ -58,8 +65,14 @@ abbrev pub if_none : Job → List (List ℕ) → Option Job
 if_none j [] = Some j
 if_none j (word ∷ words) = None
 
+abbrev pub IsWeight : ℕ → Type 0
+IsWeight n = (1 ≤ n) × (n ≤ 1000)
+
 abbrev pub IsRoleOf : Rack → Role → Type 0
 IsRoleOf rack (role.Switch switch turns) = switch < rack.switches
+IsRoleOf rack (role.Balanced switch turns weights) =
+    (switch < rack.switches) × (length weights.items ≡ rack.servers)
+    × AllByRecursion IsWeight weights.items
 IsRoleOf rack (role.Server server turns) = server < rack.servers
 IsRoleOf rack (role.Control tries waits) = (1 ≤ tries) × (tries ≤ 100) × (waits ≤ 1000)
 IsRoleOf rack (role.Ask client first tries waits) =

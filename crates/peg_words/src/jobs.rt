@@ -2,13 +2,13 @@
 ghost use Rattle.std.specs.Prelude.{◌≡◌, IfSome, map, option_and_then};
 ghost use Rattle.std.specs.String.{string_bytes};
 ghost use Rattle.peg_meaning.specs.Commands.{soak_job, switch_job, server_job, control_job};
-ghost use Rattle.peg_meaning.specs.Commands.{ask_job, rack_job};
+ghost use Rattle.peg_meaning.specs.Commands.{ask_job, rack_job, balanced_job};
 ghost use Rattle.peg_words.specs.Jobs.{given, IsInRange, if_none};
 
 use crate::numbers::{base_of, number_within, tries_of, turns_of, waits_of};
-use crate::racks::rack_of;
+use crate::racks::{rack_of, switch_of, weights_of};
 use crate::{Job, Role};
-use peg_name::{ClientId, Seq, ServerId, SwitchId};
+use peg_name::{ClientId, Seq, ServerId};
 
 // Of a command without arguments.
 pub(crate) fn plain(job: Job, words: &[String]) -> Option<Job>
@@ -39,11 +39,28 @@ pub(crate) fn switch(words: &[String]) -> Option<Job>
     };
     let base = base_of(base.as_str())?;
     let config = rack_of(rack.as_str())?;
-    let switch = number_within(0, config.switches() - 1, switch.as_str())?;
+    let switch = switch_of(&config, switch.as_str())?;
     let turns = turns_of(turns.as_str())?;
-    let role = Role::Switch {
-        switch: SwitchId(switch as u8),
+    let role = Role::Switch { switch, turns };
+    Some(Job::Node { base, config, role })
+}
+
+pub(crate) fn balanced(words: &[String]) -> Option<Job>
+    ensures job { result ≡ option_and_then given (balanced_job (map string_bytes words.now)) }
+    ensures in_range { IfSome result IsInRange }
+{
+    let [base, rack, switch, turns, weights] = words else {
+        return None;
+    };
+    let base = base_of(base.as_str())?;
+    let config = rack_of(rack.as_str())?;
+    let switch = switch_of(&config, switch.as_str())?;
+    let turns = turns_of(turns.as_str())?;
+    let weights = weights_of(&config, weights.as_str())?;
+    let role = Role::Balanced {
+        switch,
         turns,
+        weights,
     };
     Some(Job::Node { base, config, role })
 }

@@ -8,7 +8,7 @@ ghost use Rattle.peg_words.specs.Jobs.{job_of, count_of, IsInRange};
 ghost use Rattle.peg_words.specs.Arguments.{is_dashed};
 
 use arguments::exactly;
-use jobs::{ask, control, plain, rack, server, soak, switch};
+use jobs::{ask, balanced, control, plain, rack, server, soak, switch};
 use peg_name::Config;
 pub use role::Role;
 use std::alloc::{AllocError, Global};
@@ -23,7 +23,7 @@ mod role;
 mod tests;
 
 /// What the program is to do.
-#[derive(Clone, Copy, Debug)]
+#[derive(Debug, Drop)]
 pub enum Job {
     /// Read a schedule, and write its trace, its history and its orders.
     Replay,
@@ -38,6 +38,9 @@ pub enum Job {
     Rack {
         base: u16,
     },
+    /// Read a schedule of several racks, among which the keys are divided, and write the trace, and
+    /// the history and the orders of each rack.
+    Racks,
     /// Run one node of a rack over a wire. The ports of the nodes begin at `base`, from 1,024 to
     /// 60,000.
     Node {
@@ -72,7 +75,7 @@ impl From<AllocError> for WordFault {
 /// The job of the words that follow the program's name: the first names a command, and the others
 /// are exactly its arguments. A number is written in decimal without a sign or a leading zero, and a
 /// rack as six numbers with colons between: servers, clients, switches, listed keys, rows of counts
-/// and the first version; in format 2 `:2` stands behind them.
+/// and the first version; in format 2 `:2` stands behind them. Weights are written with colons between.
 /// There are no options and there is no help. `Usage` says that the words are no command.
 pub fn read_words(alloc: Global, words: &[String]) -> Result<Job, WordFault>
     ensures job { IfOk result (λ job. job_of (map string_bytes words.now) ≡ Some job) }
@@ -121,6 +124,8 @@ fn count_of(name: &str) -> Option<usize>
         "control" => Some(4),
         "ask" => Some(6),
         "rack" => Some(1),
+        "racks" => Some(0),
+        "balanced" => Some(5),
         _ => None,
     }
 }
@@ -139,6 +144,8 @@ fn job_by(name: &str, words: &[String]) -> Option<Job>
         "control" => control(words),
         "ask" => ask(words),
         "rack" => rack(words),
+        "racks" => plain(Job::Racks, words),
+        "balanced" => balanced(words),
         _ => None,
     }
 }

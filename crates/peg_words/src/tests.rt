@@ -12,10 +12,17 @@ fn words_of(alloc: Global, texts: &[&str]) -> Result<Vec<String>, AllocError> {
 }
 
 // Words, and what their job is shown as.
-const JOBS: [(&[&str], &str); 9] = [
+const JOBS: [(&[&str], &str); 11] = [
     (&["replay"], "Ok(Replay)"),
     (&["check"], "Ok(Check)"),
     (&["rack", "7000"], "Ok(Rack { base: 7000 })"),
+    (&["racks"], "Ok(Racks)"),
+    (
+        &["balanced", "7000", "2:1:1:1:1:1", "0", "5", "1000:1"],
+        "Ok(Node { base: 7000, config: Config { format: One, servers: 2, clients: 1, switches: 1, \
+        listed: 1, hot: 1, first: 1 }, role: Balanced { switch: SwitchId(0), turns: 5, \
+        weights: [1000, 1] } })",
+    ),
     (
         &["soak", "20000", "7"],
         "Ok(Soak { events: 20000, start: 7 })",
@@ -103,7 +110,7 @@ fn other_words_are_no_command(rt: HostRuntime) -> Result<(), Fail> {
 
 #[test]
 fn other_arguments_are_no_node(rt: HostRuntime) -> Result<(), Fail> {
-    let cases: [&[&str]; 26] = [
+    let cases: [&[&str]; 32] = [
         &["switch"],
         &["switch", "7000", "1:1:1:1:1:1", "0"],
         &["switch", "7000", "1:1:1:1:1:1", "0", "2", "2"],
@@ -129,6 +136,12 @@ fn other_arguments_are_no_node(rt: HostRuntime) -> Result<(), Fail> {
         &["ask", "7000", "1:1:1:1:1:1", "1", "1", "2", "1"],
         &["ask", "7000", "1:1:1:1:1:1", "0", "0", "2", "1"],
         &["ask", "7000", "1:1:1:1:1:1", "0", "1", "2"],
+        &["balanced", "7000", "1:1:1:1:1:1", "0", "2"],
+        &["balanced", "7000", "1:1:1:1:1:1", "0", "2", "0"],
+        &["balanced", "7000", "1:1:1:1:1:1", "0", "2", "1:1"],
+        &["balanced", "7000", "2:1:1:1:1:1", "0", "2", "1:1001"],
+        &["balanced", "7000", "2:1:1:1:1:1", "1", "2", "1:1"],
+        &["racks", "2"],
         &["audit"],
     ];
     refuses(&rt, rt.alloc(), &cases)
